@@ -1,0 +1,26 @@
+# make reach: proves, builds and runs the example program.
+# make test:  the comparisons with the second program, then the whole proof from nothing.
+# make compare SEED=1 CALLS=1000000: the comparisons, for as long as asked.
+# make bench: the library beside plain Rust.
+.PHONY: reach test compare bench library
+
+SEED ?= 1
+CALLS ?= 1000000
+
+reach:
+	rt check reach
+	cat crates/reach/stdout
+
+library:
+	tools/staticlib
+
+test: library
+	cd rust && cargo test --offline --release --workspace
+	cd rust && cargo run --offline --release -p compare
+	rt ci
+
+compare: library
+	cd rust && cargo run --offline --release -p compare -- --seed $(SEED) --calls $(CALLS)
+
+bench: library
+	cd rust && cargo run --offline --release -p bench

@@ -1,0 +1,18 @@
+-- `reach_c::reach_find` meets its contract: the library's answer, put into C's struct. Assumes nothing.
+use mathlib.Core.Path.{ap, _∙_}
+use Rattle.reach_c.specs.Answer.{findAnswer}
+use borrow.Author.Needs.{needs}
+use Rattle.reach_c.proofs.reach_find.Statement.{statement}
+use Rattle.reach_c.proofs.reach_find.Tie as tie
+
+find-requires : tie.Need-find-requires
+find-requires c κs = search needs
+
+of-find-requires : tie.Need-of-find-requires
+of-find-requires c κs = search needs
+
+returns : tie.Need-returns
+returns c = c .of-find .ensures ∙ ap findAnswer (c .before .find .ensures)
+
+pub reach-find-spec : {M : Type 1} → statement M
+reach-find-spec = tie.close (tie.spec find-requires of-find-requires returns)

@@ -1,0 +1,26 @@
+-- The library's answers as one struct for C: include/reach.h. Refusal 0 is acceptance; what an answer does not use is 0.
+-- Assumes nothing.
+use Prim.Native.Nat.{ℕ}
+use lib.IntN.{ℤ, pos}
+use Rattle.tree.specs.declared.Checked.{Checked}
+use Rattle.tree.specs.declared.Checked.the-variants.{Passed, Refused}
+use Rattle.tree.specs.declared.Found.{Found}
+use Rattle.tree.specs.declared.Found.the-variants.{At, Refused as NotFound}
+use Rattle.reach_c.specs.declared.answer.Answer.{Answer}
+
+-- accepted, with two numbers and a move
+abbrev pub accepted : ℕ → ℕ → ℤ → Answer
+accepted a b m = record { refusal = 0; place = 0; first = a; second = b; moved = m }
+
+-- refused, with the number and the place
+abbrev pub refused : ℕ → ℕ → Answer
+refused n p = record { refusal = n; place = p; first = 0; second = 0; moved = pos 0 }
+
+unfoldable pub checkAnswer : Checked → Answer
+checkAnswer Passed = accepted 0 0 (pos 0)
+checkAnswer (Refused n p) = refused n p
+
+-- the row of the key comes first
+unfoldable pub findAnswer : Found → Answer
+findAnswer (At r) = accepted r 0 (pos 0)
+findAnswer (NotFound n p) = refused n p

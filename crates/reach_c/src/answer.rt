@@ -1,0 +1,60 @@
+// The library's answers as one struct for C. Refusal 0 is acceptance; what an answer does not use is 0.
+ghost use mathlib.Core.Path.{_≡_};
+ghost use Rattle.reach_c.specs.Answer.{accepted, refused, checkAnswer, findAnswer};
+use tree::Checked;
+use tree::Found;
+
+#[repr(C)]
+pub struct Answer {
+    pub refusal: usize,
+    pub place: usize,
+    pub first: usize,
+    pub second: usize,
+    pub moved: i64,
+}
+
+// An acceptance, with two numbers and a move.
+pub fn accept(first: usize, second: usize, moved: i64) -> Answer
+    ensures { λ r. ⌜ r ≡ accepted first second moved ⌝ }
+{
+    Answer {
+        refusal: 0,
+        place: 0,
+        first,
+        second,
+        moved,
+    }
+}
+
+// A refusal, with its number and place.
+pub fn refuse(number: usize, place: usize) -> Answer
+    ensures { λ r. ⌜ r ≡ refused number place ⌝ }
+{
+    Answer {
+        refusal: number,
+        place,
+        first: 0,
+        second: 0,
+        moved: 0,
+    }
+}
+
+// What a check answers.
+pub fn of_check(checked: Checked) -> Answer
+    ensures { λ r. ⌜ r ≡ checkAnswer checked ⌝ }
+{
+    match checked {
+        Checked::Passed => accept(0, 0, 0),
+        Checked::Refused(number, place) => refuse(number, place),
+    }
+}
+
+// What finding a key answers: the row first.
+pub fn of_find(found: Found) -> Answer
+    ensures { λ r. ⌜ r ≡ findAnswer found ⌝ }
+{
+    match found {
+        Found::At(row) => accept(row, 0, 0),
+        Found::Refused(number, place) => refuse(number, place),
+    }
+}

@@ -1,0 +1,13 @@
+use mathlib.Core.Path.{refl}
+use Rattle.table.specs.Chain.{bucketOf}
+use Rattle.table.proofs.KeyLaws.{bucket-lt}
+use borrow.Author.Needs.{needs}
+use Rattle.table.proofs.keys.bucket.Statement.{statement}
+use Rattle.table.proofs.keys.bucket.Tie as tie
+
+returns : tie.Need-returns
+unfolding bucketOf
+returns c = (refl, bucket-lt _)
+
+pub bucket-spec : {M : Type 1} → statement M
+bucket-spec = tie.close (tie.spec returns)

@@ -1,0 +1,59 @@
+// What every call checks first, and finding a row by its key: document 01, "The table" and "Finding and editing by key".
+// No column is changed.
+ghost use mathlib.Core.Path.{_≡_};
+ghost use Rattle.tree.specs.Table.{tableOf};
+ghost use Rattle.tree.specs.Outcome.{checkOutcome, findOutcome};
+
+pub mod logic; // logic.rt: the smaller of two numbers; tests joined
+pub mod rows; // rows.rt: the rules of a row, and the least row that breaks one
+pub mod keys; // keys.rt: the row of a key, and the least row whose key is bad
+
+use tree::Checked;
+use tree::Found;
+
+// Refusal 1 or 2, or that the table is sound.
+pub fn check(
+    key: &[usize],
+    size: &[usize],
+    level: &[usize],
+    kind: &[usize],
+    name: &[usize],
+    count: usize,
+) -> Checked
+    ensures { λ r. ⌜ r ≡ checkOutcome (tableOf (now (key .entry)) (now (size .entry)) (now (level .entry)) (now (kind .entry)) (now (name .entry)) count) ⌝ }
+{
+    if !rows::count_ok(key, size, level, kind, name, count) {
+        return Checked::Refused(1, 0);
+    }
+    let bad = rows::first_bad(key, size, level, kind, name, count);
+    if bad < count {
+        return Checked::Refused(2, bad);
+    }
+    Checked::Passed
+}
+
+// The row of a key, or refusal 1, 2 or 9.
+pub fn find(
+    key: &[usize],
+    size: &[usize],
+    level: &[usize],
+    kind: &[usize],
+    name: &[usize],
+    count: usize,
+    wanted: usize,
+) -> Found
+    ensures { λ r. ⌜ r ≡ findOutcome (tableOf (now (key .entry)) (now (size .entry)) (now (level .entry)) (now (kind .entry)) (now (name .entry)) count) wanted ⌝ }
+{
+    let checked = check(key, size, level, kind, name, count);
+    match checked {
+        Checked::Refused(number, place) => Found::Refused(number, place),
+        Checked::Passed => {
+            let row = keys::row_of(key, count, wanted);
+            if row < count {
+                Found::At(row)
+            } else {
+                Found::Refused(9, 0)
+            }
+        }
+    }
+}

@@ -1,0 +1,138 @@
+-- When an edit is accepted, in plain words: `insert-passes`, `delete-passes`, `rename-passes`, `edit-passes`.
+-- Assumes nothing.
+use mathlib.Core.Path.{_≡_, refl, sym, ap, ap₂, subst, _∙_}
+use mathlib.Core.Logic.{_⊎_, inl, inr, ⊎-elim, _↔_}
+use mathlib.Core.Bool.{Bool, true, false, cond, not, _||_, true≢false}
+use mathlib.Core.List.{List}
+use Prim.Native.Nat.{ℕ, zero, suc, _+_, _-_, _<_, _≤_}
+use native.Mathlib.Nat.{le-refl}
+use native.Mathlib.Omega.{arith}
+use borrow.Author.Tests.{eqb-true, eqb-false, eq-eqb, ne-eqb, ltb-true, ltb-false, lt-ltb, le-ltb, leb-true, le-leb, not-true, not-false}
+use lib.Dec.{eqb, ltb, leb}
+use Rattle.tree.specs.Search.{least}
+use Rattle.tree.specs.Table.{Table, at, shortest, countOk}
+use Rattle.tree.specs.Sound.{rowOf, hasName, firstBad}
+use Rattle.tree.specs.Refusal.{given, givenAt, next, tableCheck, keyCheck, badPiece, insertCheck, deleteCheck, renameCheck}
+use Rattle.tree.specs.Outcome.{editCheck}
+use Rattle.tree.specs.declared.Checked.{Checked}
+use Rattle.tree.specs.declared.Checked.the-variants.{Passed}
+use Rattle.tree.proofs.SearchLaws.{least-below, least-passes, least-none, least-le}
+use Rattle.tree.specs.Rules.{Sound}
+use Rattle.tree.proofs.SoundLaws.{table-passes, next-passed, given-passed, given-not, either, either-left, either-right}
+
+pub neither : (a b : Bool) → (a || b) ≡ false → (a ≡ false) × (b ≡ false)
+neither true b e = absurd (true≢false e)
+neither false b e = (refl, e)
+
+pub neither-of : {a b : Bool} → a ≡ false → b ≡ false → (a || b) ≡ false
+neither-of {a} {b} p q = ap (λ (x : Bool). x || b) p ∙ q
+
+-- a search comes to its end exactly if nothing passes
+pub none-below : (f : ℕ → Bool) (n : ℕ) → (ltb (least f n) n ≡ false) ↔ ((i : ℕ) → i < n → f i ≡ false)
+none-below f n = (
+  λ e i l. let z : n ≤ least f n = ltb-false _ _ e in least-below f n i (omega arith),
+  λ h. let z : least f n ≡ n = least-none f n h in le-ltb (least f n) n (omega arith),
+)
+
+-- no row in use has the key x
+abbrev pub NoKey : Table → ℕ → Type 0
+NoKey t x = (j : ℕ) → j < t .count → at (t .key) j ≡ x → ⊥
+
+no-key : (t : Table) (x : ℕ) → (ltb (rowOf (t .key) (t .count) x) (t .count) ≡ false) ↔ NoKey t x
+unfolding rowOf
+no-key t x = (
+  λ e j l. eqb-false _ _ (none-below (λ k. eqb (at (t .key) k) x) (t .count) .0 e j l),
+  λ h. none-below (λ k. eqb (at (t .key) k) x) (t .count) .1 (λ j l. ne-eqb _ _ (h j l)),
+)
+
+-- refusals 10 to 14 do not apply
+pub record InsertFits (t : Table) (r : ℕ) (p : Table) : Type 0 where
+  pub piece : Sound p
+  pub root : at (p .kind) 0 ≡ 0 → ⊥
+  pub parent : at (t .kind) r ≤ 1
+  pub low : (i : ℕ) → i < p .count → at (p .level) i + (at (t .level) r + 1) ≤ 63
+  pub fresh : (i : ℕ) → i < p .count → NoKey t (at (p .key) i)
+  pub few : t .count + p .count ≤ 4096
+  pub room : t .count + p .count ≤ shortest t
+
+piece-ok : (p : Table) → (badPiece p ≡ false) ↔ (Sound p × (at (p .kind) 0 ≡ 0 → ⊥))
+unfolding badPiece tableCheck
+piece-ok p = (
+  λ e. let a = neither (not (countOk p) || ltb (firstBad p) (p .count)) _ e in
+      let b = neither (not (countOk p)) _ (a .0) in
+      (table-passes p .0 (next-passed _ _ .1 (given-not _ _ (b .0), given-not _ _ (b .1))), eqb-false _ _ (a .1)),
+  λ h. let a = next-passed _ _ .0 (table-passes p .1 (h .0)) in
+      neither-of (neither-of (given-passed _ _ _ (a .0)) (given-passed _ _ _ (a .1))) (ne-eqb _ _ (h .1)),
+)
+
+pub insert-passes : (t : Table) (r : ℕ) (p : Table) → (insertCheck t r p ≡ Passed) ↔ InsertFits t r p
+unfolding insertCheck givenAt
+insert-passes t r p = (there, back)
+  where
+    there : insertCheck t r p ≡ Passed → InsertFits t r p
+    there e =
+        let a = next-passed _ _ .0 e in
+        let b = next-passed _ _ .0 (a .1) in
+        let c = next-passed _ _ .0 (b .1) in
+        let d = next-passed _ _ .0 (c .1) in
+        let o = piece-ok p .0 (given-passed _ _ _ (a .0)) in
+        let m = neither _ _ (given-passed _ _ _ (d .1)) in
+        record {
+          piece = o .0;
+          root = o .1;
+          parent = leb-true _ _ (not-false _ (given-passed _ _ _ (b .0)));
+          low = λ i l. ltb-false _ _ (none-below (λ i. ltb 63 (at (p .level) i + (at (t .level) r + 1))) (p .count) .0 (given-passed _ _ _ (c .0)) i l);
+          fresh = λ i l. no-key t (at (p .key) i) .0 (none-below (λ i. ltb (rowOf (t .key) (t .count) (at (p .key) i)) (t .count)) (p .count) .0 (given-passed _ _ _ (d .0)) i l);
+          few = ltb-false _ _ (m .0);
+          room = ltb-false _ _ (m .1);
+        }
+
+    back : InsertFits t r p → insertCheck t r p ≡ Passed
+    back h =
+        next-passed _ _ .1 (
+          given-not _ _ (piece-ok p .1 (h .piece, h .root)),
+          next-passed _ _ .1 (
+            given-not _ _ (ap not (le-leb _ _ (h .parent))),
+            next-passed _ _ .1 (
+              given-not _ _ (none-below (λ i. ltb 63 (at (p .level) i + (at (t .level) r + 1))) (p .count) .1 (λ i l. le-ltb _ _ (h .low i l))),
+              next-passed _ _ .1 (
+                given-not _ _ (none-below (λ i. ltb (rowOf (t .key) (t .count) (at (p .key) i)) (t .count)) (p .count) .1 (λ i l. no-key t (at (p .key) i) .1 (h .fresh i l))),
+                given-not _ _ (neither-of (le-ltb _ _ (h .few)) (le-ltb _ _ (h .room))),
+              ),
+            ),
+          ),
+        )
+
+pub delete-passes : (t : Table) (r : ℕ) → (deleteCheck t r ≡ Passed) ↔ (r ≡ 0 → ⊥)
+unfolding deleteCheck
+delete-passes t r = (λ e. eqb-false _ _ (given-passed _ _ _ e), λ h. given-not _ _ (ne-eqb _ _ h))
+
+-- refusal 16 does not apply
+pub record RenameFits (kind m : ℕ) : Type 0 where
+  pub named : (kind ≡ 1) ⊎ (kind ≡ 4)
+  pub nonzero : m ≡ 0 → ⊥
+
+pub rename-passes : (t : Table) (r m : ℕ) → (renameCheck t r m ≡ Passed) ↔ RenameFits (at (t .kind) r) m
+unfolding renameCheck hasName
+rename-passes t r m = (
+  λ e. let a = neither _ _ (given-passed _ _ _ e) in
+      record { named = ⊎-elim (λ p. inl (eqb-true _ _ p)) (λ p. inr (eqb-true _ _ p)) (either _ _ (not-false _ (a .0))); nonzero = eqb-false _ _ (a .1) },
+  λ h. let n : (eqb (at (t .kind) r) 1 || eqb (at (t .kind) r) 4) ≡ true =
+      ⊎-elim (λ p. either-left _ (eq-eqb _ _ p)) (λ p. either-right (eqb (at (t .kind) r) 1) (eq-eqb _ _ p)) (h .named) in
+      given-not _ _ (neither-of (ap not n) (ne-eqb _ _ (h .nonzero))),
+)
+
+-- the table is sound, the key is found, and the edit's own check passes at its row
+pub record Accepted (t : Table) (k : ℕ) (own : Checked) : Type 0 where
+  pub sound : Sound t
+  pub found : rowOf (t .key) (t .count) k < t .count
+  pub passes : own ≡ Passed
+
+pub edit-passes : (t : Table) (k : ℕ) (own : Checked) → (editCheck t k own ≡ Passed) ↔ Accepted t k own
+unfolding editCheck keyCheck
+edit-passes t k own = (
+  λ e. let a = next-passed _ _ .0 e in
+      let b = next-passed _ _ .0 (a .1) in
+      record { sound = table-passes t .0 (a .0); found = ltb-true _ _ (not-false _ (given-passed _ _ _ (b .0))); passes = b .1 },
+  λ h. next-passed _ _ .1 (table-passes t .1 (h .sound), next-passed _ _ .1 (given-not _ _ (ap not (lt-ltb _ _ (h .found))), h .passes)),
+)

@@ -1,0 +1,13 @@
+pub mod Search
+pub mod Table
+pub mod Sound
+pub mod Rules
+pub mod Tree
+pub mod Axis
+pub mod Test
+pub mod Pairs
+pub mod Step
+pub mod Kept
+pub mod Edit
+pub mod Refusal
+pub mod Outcome

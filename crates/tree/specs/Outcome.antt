@@ -1,0 +1,91 @@
+-- What each public call answers, and what the lent columns hold afterwards: on every input, on refusals too.
+-- Assumes nothing.
+use Prim.Native.Nat.{ℕ}
+use mathlib.Core.List.{List, _++_}
+use lib.ListN.{length, drop}
+use Rattle.tree.specs.Table.{Table}
+use Rattle.tree.specs.Sound.{rowOf}
+use Rattle.tree.specs.Pairs.{Pair, pairsOf, rolesOf, rowsOf}
+use Rattle.tree.specs.Step.{Ask, stepList}
+use Rattle.tree.specs.Kept.{keptCount}
+use Rattle.tree.specs.Edit.{inserted, deleted, renamed, insertDone, deleteDone, renameDone}
+use Rattle.tree.specs.Refusal.{next, tableCheck, pairCheck, askCheck, roomCheck, keyCheck, insertCheck, deleteCheck, renameCheck}
+use Rattle.tree.specs.declared.Checked.{Checked}
+use Rattle.tree.specs.declared.Checked.the-variants.{Passed, Refused}
+use Rattle.tree.specs.declared.Found.{Found}
+use Rattle.tree.specs.declared.Found.the-variants.{At, Refused as NotFound}
+use Rattle.tree.specs.declared.Stepped.{Stepped}
+use Rattle.tree.specs.declared.Stepped.the-variants.{Listed, Refused as NotListed}
+use Rattle.tree.specs.declared.Done.{Done}
+use Rattle.tree.specs.declared.Edited.{Edited}
+use Rattle.tree.specs.declared.Edited.the-variants.{Made, Refused as NotMade}
+
+-- ── table check: 1, 2 ──
+unfoldable pub checkOutcome : Table → Checked
+checkOutcome t = tableCheck t
+
+-- ── find: 1, 2, 9 ──
+unfoldable pub foundIf : Checked → ℕ → Found
+foundIf Passed r = At r
+foundIf (Refused m p) r = NotFound m p
+
+unfoldable pub findOutcome : Table → ℕ → Found
+findOutcome t k = foundIf (next (tableCheck t) (keyCheck t k)) (rowOf (t .key) (t .count) k)
+
+-- ── step: 1 to 8 ──
+pub record StepOutcome : Type 0 where
+  pub answer : Stepped
+  pub role : List ℕ
+  pub row : List ℕ
+
+-- a result column with these results in front; places beyond stay
+unfoldable pub overwritten : List ℕ → List ℕ → List ℕ
+overwritten xs out = xs ++ drop (length xs) out
+
+unfoldable pub stepIf : Checked → List Pair → ℕ → List ℕ → List ℕ → StepOutcome
+stepIf (Refused m p) results kept outRole outRow = record { answer = NotListed m p; role = outRole; row = outRow }
+stepIf Passed results kept outRole outRow = record {
+  answer = Listed (length results) kept;
+  role = overwritten (rolesOf results) outRole;
+  row = overwritten (rowsOf results) outRow;
+}
+
+-- the checks of a step, in their order
+unfoldable pub stepCheck : Table → List ℕ → List ℕ → Ask → List ℕ → List ℕ → Checked
+stepCheck t role row a outRole outRow =
+    next (tableCheck t) (next (pairCheck role row (t .count)) (next (askCheck a)
+    (roomCheck (length (stepList t a (pairsOf role row))) outRole outRow)))
+
+unfoldable pub stepOutcome : Table → List ℕ → List ℕ → Ask → List ℕ → List ℕ → StepOutcome
+stepOutcome t role row a outRole outRow =
+    stepIf (stepCheck t role row a outRole outRow) (stepList t a (pairsOf role row))
+    (keptCount (a .axis) (t .level) (pairsOf role row)) outRole outRow
+
+-- ── edits: 1, 2, 9, then their own ──
+pub record EditOutcome : Type 0 where
+  pub answer : Edited
+  pub table : Table
+
+-- the edit that was checked: its answer and table, or the refusal and the table as it was
+unfoldable pub editIf : Checked → Done → Table → Table → EditOutcome
+editIf (Refused m p) d t′ t = record { answer = NotMade m p; table = t }
+editIf Passed d t′ t = record { answer = Made d; table = t′ }
+
+-- 1, 2 and 9, then the edit's own check of the row found
+unfoldable pub editCheck : Table → ℕ → Checked → Checked
+editCheck t k own = next (tableCheck t) (next (keyCheck t k) own)
+
+unfoldable pub insertOutcome : Table → ℕ → Table → EditOutcome
+insertOutcome t k p =
+    let r : ℕ = rowOf (t .key) (t .count) k in
+    editIf (editCheck t k (insertCheck t r p)) (insertDone t r p) (inserted t r p) t
+
+unfoldable pub deleteOutcome : Table → ℕ → EditOutcome
+deleteOutcome t k =
+    let r : ℕ = rowOf (t .key) (t .count) k in
+    editIf (editCheck t k (deleteCheck t r)) (deleteDone t r) (deleted t r) t
+
+unfoldable pub renameOutcome : Table → ℕ → ℕ → EditOutcome
+renameOutcome t k m =
+    let r : ℕ = rowOf (t .key) (t .count) k in
+    editIf (editCheck t k (renameCheck t r m)) (renameDone t) (renamed t r m) t

@@ -1,0 +1,58 @@
+//! Check and find.
+
+use crate::race::{Race, Times};
+use crate::report::{figure, Group};
+use crate::tables::{deep, flat, Columns};
+
+/// At 4,096 flat rows the check takes at most so many times what plain Rust takes.
+const CHECK_BAR: f64 = 1.5;
+/// Twice the rows take at most so many times the time.
+const GROWTH_BAR: f64 = 2.3;
+
+/// Makes a table of so many rows.
+type Shape = fn(usize) -> Columns;
+
+const SHAPES: [(&str, Shape); 2] = [("flat", flat), ("63 deep", deep)];
+
+pub fn run(race: &Race) {
+    let mut group = Group::new("check, microseconds a call");
+    for (name, shape) in SHAPES {
+        for rows in [64, 512, 4_096] {
+            let times = check_time(race, &shape(rows));
+            let line = format!("{rows} rows, {name}");
+            match (rows, name) {
+                (4_096, "flat") => group.line_with_bar(&line, times, CHECK_BAR),
+                _ => group.line(&line, times),
+            }
+        }
+    }
+    group.mean();
+    find(race);
+    println!();
+    println!("growth of the library's check");
+    for (name, shape) in SHAPES {
+        let half = check_time(race, &shape(2_048)).ours;
+        let whole = check_time(race, &shape(4_096)).ours;
+        figure(&format!("4,096 over 2,048 rows, {name}"), whole / half, GROWTH_BAR);
+    }
+}
+
+fn check_time(race: &Race, table: &Columns) -> Times {
+    race.time(|engine| engine.check(table))
+}
+
+fn find(race: &Race) {
+    let mut group = Group::new("find, microseconds a call");
+    for (name, shape) in SHAPES {
+        for rows in [64, 512, 4_096] {
+            let table = shape(rows);
+            let wanted = table.key[rows * 3 / 4];
+            let times = race.time(|engine| engine.find(&table, wanted));
+            group.line(&format!("{rows} rows, {name}"), times);
+        }
+    }
+    let table = flat(4_096);
+    let times = race.time(|engine| engine.find(&table, 0));
+    group.line("4096 rows, a key that is missing", times);
+    group.mean();
+}

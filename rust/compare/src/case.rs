@@ -1,0 +1,113 @@
+//! One call with everything that is lent to it.
+
+use std::fmt;
+
+/// The five columns of a table, as they are lent.
+#[derive(Clone, Debug, Default, PartialEq, Eq)]
+pub struct Columns {
+    pub key: Vec<usize>,
+    pub size: Vec<usize>,
+    pub level: Vec<usize>,
+    pub kind: Vec<usize>,
+    pub name: Vec<usize>,
+}
+
+/// The names of the five columns, in their order.
+pub const COLUMN_NAMES: [&str; 5] = ["key", "size", "level", "kind", "name"];
+
+impl Columns {
+    pub fn each(&self) -> [&Vec<usize>; 5] {
+        [&self.key, &self.size, &self.level, &self.kind, &self.name]
+    }
+
+    pub fn each_mut(&mut self) -> [&mut Vec<usize>; 5] {
+        [&mut self.key, &mut self.size, &mut self.level, &mut self.kind, &mut self.name]
+    }
+
+    pub fn shortest(&self) -> usize {
+        self.each().iter().map(|column| column.len()).fold(usize::MAX, usize::min)
+    }
+}
+
+/// What is asked of a table.
+#[derive(Clone, Debug, PartialEq, Eq)]
+pub enum Call {
+    Check,
+    Find { wanted: usize },
+}
+
+/// A call, with the table it is about.
+#[derive(Clone, Debug, PartialEq, Eq)]
+pub struct Case {
+    pub table: Columns,
+    pub count: usize,
+    pub call: Call,
+}
+
+/// The numbers that every call answers with.
+#[derive(Clone, Copy, Debug, Default, PartialEq, Eq)]
+pub struct Answer {
+    pub refusal: usize,
+    pub place: usize,
+    pub first: usize,
+    pub second: usize,
+    pub moved: i64,
+}
+
+impl Answer {
+    pub fn refused(number: usize, place: usize) -> Answer {
+        Answer { refusal: number, place, ..Answer::default() }
+    }
+}
+
+/// The functions of the library.
+#[derive(Clone, Copy, Debug, PartialEq, Eq)]
+pub enum Entry {
+    Check,
+    Find,
+}
+
+impl Entry {
+    pub const ALL: [Entry; 2] = [Entry::Check, Entry::Find];
+
+    pub fn name(self) -> &'static str {
+        match self {
+            Entry::Check => "check",
+            Entry::Find => "find",
+        }
+    }
+}
+
+impl Case {
+    pub fn entry(&self) -> Entry {
+        match self.call {
+            Call::Check => Entry::Check,
+            Call::Find { .. } => Entry::Find,
+        }
+    }
+
+    /// Every lent column with its name.
+    pub fn lent(&self) -> Vec<(String, &[usize])> {
+        named("", &self.table)
+    }
+}
+
+/// The five columns with their names.
+fn named<'a>(prefix: &str, columns: &'a Columns) -> Vec<(String, &'a [usize])> {
+    let named = COLUMN_NAMES.iter().zip(columns.each());
+    named.map(|(name, column)| (format!("{prefix}{name}"), column.as_slice())).collect()
+}
+
+/// The input as Rust literals.
+impl fmt::Display for Case {
+    fn fmt(&self, out: &mut fmt::Formatter<'_>) -> fmt::Result {
+        for (name, column) in self.lent() {
+            writeln!(out, "let {name} = {column:?};")?;
+        }
+        writeln!(out, "let count = {};", self.count)?;
+        match &self.call {
+            Call::Check => writeln!(out, "// check"),
+            Call::Find { wanted } => writeln!(out, "let wanted = {wanted}; // find"),
+        }
+    }
+}

@@ -1,0 +1,74 @@
+//! Random calls of check and find.
+
+use crate::case::{Call, Case, Columns};
+use crate::damage::spoil;
+use crate::judge::{Difference, Judge};
+use crate::progress::Progress;
+use crate::random::Random;
+use crate::tables::{add_spare_rows, lengthen, some_key, sound};
+
+/// How many calls on small tables the default run makes.
+pub const CALLS: u64 = 200_000;
+
+/// Small tables, then tall ones about the deepest level, then large ones about the most rows.
+pub fn run(judge: &mut Judge<'_>, seed: u64, calls: u64) -> Result<(), Difference> {
+    let (tall, large) = (calls / 50, calls / 500);
+    let mut progress = Progress::new("check and find", calls + tall + large);
+    for (series, calls, case) in [
+        ("check small", calls, small as fn(&mut Random) -> Case),
+        ("check tall", tall, tall_case),
+        ("check large", large, large_case),
+    ] {
+        for call in 0..calls {
+            judge.pose(case(&mut Random::for_call(seed, series, call)))?;
+            progress.advance();
+        }
+    }
+    Ok(())
+}
+
+/// A table of 1 to 12 rows.
+fn small(random: &mut Random) -> Case {
+    let rows = random.within(1, 12);
+    let mut table = sound(random, rows, 12);
+    add_spare_rows(random, &mut table, 3);
+    maybe_spoiled(random, table, rows)
+}
+
+/// A table about 64 rows long that may go down to level 64 and more.
+fn tall_case(random: &mut Random) -> Case {
+    let rows = random.within(60, 70);
+    let deepest = random.within(60, 66);
+    let mut table = sound(random, rows, deepest);
+    add_spare_rows(random, &mut table, 3);
+    maybe_spoiled(random, table, rows)
+}
+
+/// A table of up to 4,096 rows, or 4,097.
+fn large_case(random: &mut Random) -> Case {
+    let rows = match random.below(4) {
+        0 => 4_096,
+        1 => random.pick(&[4_095, 4_097]),
+        _ => random.within(13, 4_096),
+    };
+    let mut table = sound(random, rows, 63);
+    for column in table.each_mut() {
+        let spare = random.pick(&[0, 1, 100]);
+        lengthen(random, column, spare);
+    }
+    maybe_spoiled(random, table, rows)
+}
+
+/// Half of the tables stay sound.
+fn maybe_spoiled(random: &mut Random, mut table: Columns, rows: usize) -> Case {
+    let mut count = rows;
+    if random.chance(50) {
+        spoil(random, &mut table, &mut count);
+    }
+    let call = if random.chance(40) {
+        Call::Check
+    } else {
+        Call::Find { wanted: some_key(random, &table, count) }
+    };
+    Case { table, count, call }
+}

@@ -1,0 +1,58 @@
+//! The cases that the rules state for the small farm, with the numbers that they state.
+
+use crate::case::{Answer, Call, Case, Columns};
+use crate::judge::{Difference, Judge};
+use crate::tables::sizes;
+
+/// The small farm.
+pub fn farm() -> Columns {
+    Columns {
+        key: vec![10, 20, 21, 22, 23, 24, 30, 31, 32, 40],
+        size: vec![9, 4, 1, 0, 1, 0, 2, 1, 0, 0],
+        level: vec![0, 1, 2, 3, 2, 3, 1, 2, 3, 1],
+        kind: vec![1, 1, 1, 1, 1, 1, 1, 1, 1, 3],
+        name: vec![1, 2, 3, 4, 3, 4, 2, 3, 4, 0],
+    }
+}
+
+/// Poses every stated case.
+pub fn run(judge: &mut Judge<'_>) -> Result<(), Difference> {
+    checks(judge)
+}
+
+/// The farm is sound, its keys are found, and level 63 is accepted, 64 refused.
+fn checks(judge: &mut Judge<'_>) -> Result<(), Difference> {
+    let mut unchanged = |name: &str, table: Columns, count: usize, call: Call, stated: Answer| {
+        let case = Case { table, count, call };
+        judge.pose_stated(name, case.clone(), stated, case)
+    };
+    let find = |wanted: usize| Call::Find { wanted };
+    unchanged("the farm is sound", farm(), 10, Call::Check, Answer::default())?;
+    for (row, key) in farm().key.into_iter().enumerate() {
+        let stated = Answer { first: row, ..Answer::default() };
+        unchanged("a key is found", farm(), 10, find(key), stated)?;
+    }
+    for key in [0, 11, usize::MAX] {
+        unchanged("a key is not found", farm(), 10, find(key), Answer::refused(9, 0))?;
+    }
+    for count in [0, 11, 4_096, 4_097, usize::MAX] {
+        unchanged("a bad count", farm(), count, Call::Check, Answer::refused(1, 0))?;
+    }
+    unchanged("level 63", chain(64), 64, Call::Check, Answer::default())?;
+    unchanged("level 64", chain(65), 65, Call::Check, Answer::refused(2, 64))?;
+    let mut broken = farm();
+    broken.level[8] = 1;
+    unchanged("an earlier size", broken, 10, Call::Check, Answer::refused(2, 6))
+}
+
+/// A chain of so many elements, each the child of the one before.
+fn chain(rows: usize) -> Columns {
+    let level: Vec<usize> = (0..rows).collect();
+    Columns {
+        key: (1..=rows).collect(),
+        size: sizes(&level),
+        level,
+        kind: vec![1; rows],
+        name: vec![1; rows],
+    }
+}

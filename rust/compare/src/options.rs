@@ -1,0 +1,46 @@
+//! What the command line asks for.
+
+/// The parts of a run.
+#[derive(Clone, Copy, PartialEq, Eq)]
+pub enum Part {
+    Check,
+}
+
+/// The options of a run.
+pub struct Options {
+    pub engine: String,
+    pub seed: u64,
+    /// About how many calls to make in all; the default run makes as many as the rules ask for.
+    pub calls: Option<u64>,
+    /// `check` and `find` are posed together.
+    pub only: Option<Part>,
+}
+
+const USAGE: &str = "usage: compare [--engine library|plain] [--seed N] [--calls N] \
+                     [--only check|find]";
+
+impl Options {
+    /// Reads the words of the command line.
+    pub fn read(mut words: impl Iterator<Item = String>) -> Result<Options, String> {
+        let engine = if cfg!(feature = "library") { "library" } else { "plain" };
+        let mut options = Options { engine: engine.to_string(), seed: 1, calls: None, only: None };
+        while let Some(word) = words.next() {
+            let value = words.next().ok_or(USAGE)?;
+            match word.as_str() {
+                "--engine" => options.engine = value,
+                "--seed" => options.seed = value.parse().map_err(|_| USAGE)?,
+                "--calls" => options.calls = Some(value.parse().map_err(|_| USAGE)?),
+                "--only" => options.only = Some(part(&value)?),
+                _ => return Err(USAGE.to_string()),
+            }
+        }
+        Ok(options)
+    }
+}
+
+fn part(word: &str) -> Result<Part, String> {
+    match word {
+        "check" | "find" => Ok(Part::Check),
+        _ => Err(USAGE.to_string()),
+    }
+}

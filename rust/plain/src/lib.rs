@@ -1,0 +1,58 @@
+//! The reach engine in plain, unverified Rust with the same contract: what a benchmark of the
+//! verified library is held against.
+//!
+//! Every call checks the whole table in one pass: a stack of open rows for the sizes, and a hash
+//! table in a local array for the keys.
+
+#![forbid(unsafe_code)]
+
+mod answer;
+mod check;
+mod keys;
+mod table;
+
+pub use answer::Answer;
+pub use table::Table;
+
+use keys::{by_rows, Keys};
+use table::Rows;
+
+/// The most rows that a table may have in use.
+const MOST_ROWS: usize = 4_096;
+/// Levels 0 to 63.
+const LEVELS: usize = 64;
+
+/// Checks a table: refusals 1 and 2.
+pub fn check(table: &Table<'_>) -> Answer {
+    let Some(rows) = table.rows_in_use() else {
+        return Answer::refused(1, 0);
+    };
+    by_rows!(rows.count(), check_rows(&rows))
+}
+
+fn check_rows<const SLOTS: usize>(rows: &Rows<'_>) -> Answer {
+    let mut keys = Keys::<SLOTS>::new();
+    match check::first_unsound(rows, &mut keys) {
+        None => Answer::default(),
+        Some(row) => Answer::refused(2, row),
+    }
+}
+
+/// Finds the row of a key: refusals 1, 2 and 9.
+pub fn find(table: &Table<'_>, wanted: usize) -> Answer {
+    let Some(rows) = table.rows_in_use() else {
+        return Answer::refused(1, 0);
+    };
+    by_rows!(rows.count(), find_row(&rows, wanted))
+}
+
+fn find_row<const SLOTS: usize>(rows: &Rows<'_>, wanted: usize) -> Answer {
+    let mut keys = Keys::<SLOTS>::new();
+    if let Some(row) = check::first_unsound(rows, &mut keys) {
+        return Answer::refused(2, row);
+    }
+    match keys.row_of(rows.key, wanted) {
+        Some(row) => Answer { first: row, ..Answer::default() },
+        None => Answer::refused(9, 0),
+    }
+}

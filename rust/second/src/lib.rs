@@ -1,0 +1,51 @@
+//! The second program: what the reach engine has to answer, worked out by brute force from the
+//! words of its rules.
+//!
+//! It takes every row against every row, follows parent links that it finds by searching back,
+//! and edits a tree of linked nodes. It shares no method with the library it is compared with,
+//! and prefers what can be read at once to what is fast.
+
+#![forbid(unsafe_code)]
+
+mod answer;
+mod sound;
+mod table;
+
+pub use answer::Answer;
+pub use table::Table;
+
+use answer::Refused;
+use table::Rows;
+
+/// The most rows that a table may have in use.
+pub const MOST_ROWS: usize = 4_096;
+
+/// Checks a table: refusals 1 and 2.
+pub fn check(table: &Table<'_>) -> Answer {
+    match sound_rows(table) {
+        Ok(_) => Answer::default(),
+        Err(refused) => refused.answer(),
+    }
+}
+
+/// Finds the row of a key: refusals 1, 2 and 9.
+pub fn find(table: &Table<'_>, wanted: usize) -> Answer {
+    match sound_rows(table).and_then(|rows| row_of_key(&rows, wanted)) {
+        Ok(row) => Answer { first: row, ..Answer::default() },
+        Err(refused) => refused.answer(),
+    }
+}
+
+/// The rows in use, where the table is sound.
+fn sound_rows<'a>(table: &Table<'a>) -> Result<Rows<'a>, Refused> {
+    let rows = table.rows_in_use().ok_or(Refused { number: 1, place: 0 })?;
+    match sound::least_unsound_row(&rows) {
+        None => Ok(rows),
+        Some(row) => Err(Refused { number: 2, place: row }),
+    }
+}
+
+/// The row in use that has the key.
+fn row_of_key(rows: &Rows<'_>, wanted: usize) -> Result<usize, Refused> {
+    rows.numbers().find(|&row| rows.key[row] == wanted).ok_or(Refused { number: 9, place: 0 })
+}
