@@ -19,7 +19,7 @@ use Rattle.tree.specs.Sound.{rowOf, keyOk}
 use Rattle.tree.proofs.SearchLaws.{least-none, least-hit-le, nearest-le, nearest-skip, nearest-in}
 use Rattle.table.specs.Chain.{bucketOf, lastIn, Chained}
 
-pub bucket-lt : (x : ℕ) → bucketOf x < 8192
+pub bucket-lt : (x : ℕ) → bucketOf x < 16384
 unfolding bucketOf
 bucket-lt x = omega arith
 
@@ -56,7 +56,7 @@ walk key x i m l h = record {
     go k u v e false w = h k (ltb-false _ _ w) v e
 
 -- one more row, its bucket's last row chained behind it
-pub chained-more : (key heads next : List ℕ) (i : ℕ) → length heads ≡ 8192 → i < length next → Chained key heads next i
+pub chained-more : (key heads next : List ℕ) (i : ℕ) → length heads ≡ 16384 → i < length next → Chained key heads next i
     → Chained key (set heads (bucketOf (at key i)) (i + 1)) (set next i (getD heads (bucketOf (at key i)) 0)) (i + 1)
 unfolding lastIn nearest
 chained-more key heads next i l m h = record {
@@ -64,7 +64,7 @@ chained-more key heads next i l m h = record {
   next-at = λ j k. old j (eq-or-lt-of-le (le-of-suc-le-suc (rw add-one at k)));
 }
   where
-    head : (b : ℕ) → b < 8192 → (t : Bool) → eqb (bucketOf (at key i)) b ≡ t
+    head : (b : ℕ) → b < 16384 → (t : Bool) → eqb (bucketOf (at key i)) b ≡ t
         → getD (set heads (bucketOf (at key i)) (suc i)) b 0 ≡ lastIn key b (suc i)
     head b k true p =
         let e : bucketOf (at key i) ≡ b = eqb-true _ _ p in
@@ -77,10 +77,10 @@ chained-more key heads next i l m h = record {
     old j (inl e) = rw e (getD-set-same next i _ 0 m ∙ h .heads-at _ (bucket-lt (at key i)))
     old j (inr k) = getD-set-other next i j _ 0 (λ e. absurd (omega arith)) ∙ h .next-at j k
 
-pub chained-none : (key : List ℕ) → Chained key (replicate 8192 0) (replicate 4096 0) 0
+pub chained-none : (key : List ℕ) → Chained key (replicate 16384 0) (replicate 4096 0) 0
 unfolding lastIn nearest
 chained-none key = record {
-  heads-at = λ b k. getD-replicate 8192 b 0 0 k;
+  heads-at = λ b k. getD-replicate 16384 b 0 0 k;
   next-at = λ j k. absurd (not-suc-le-zero k);
 }
 

@@ -8,7 +8,7 @@ use Rattle.tree.specs.Search.{nearest}
 use Rattle.tree.specs.Table.{at}
 
 unfoldable pub bucketOf : ℕ → ℕ
-bucketOf x = x % 8191
+bucketOf x = x % 16381
 
 -- one more than the last row below i whose key is in the bucket b, or 0
 unfoldable pub lastIn : List ℕ → ℕ → ℕ → ℕ
@@ -16,5 +16,5 @@ lastIn key b i = nearest (λ j. eqb (bucketOf (at key j)) b) i
 
 -- the rows below i are chained: heads has the last row of each bucket, next the one before a row
 pub record Chained (key heads next : List ℕ) (i : ℕ) : Type 0 where
-  pub heads-at : (b : ℕ) → b < 8192 → at heads b ≡ lastIn key b i
+  pub heads-at : (b : ℕ) → b < 16384 → at heads b ≡ lastIn key b i
   pub next-at : (j : ℕ) → j < i → at next j ≡ lastIn key (bucketOf (at key j)) j

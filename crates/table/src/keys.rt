@@ -24,13 +24,13 @@ pub fn row_of(key: &[usize], n: usize, x: usize) -> usize
 
 // The bucket of a key.
 pub fn bucket(x: usize) -> usize
-    ensures { λ r. ⌜ (r ≡ bucketOf x) × (r < 8192) ⌝ }
+    ensures { λ r. ⌜ (r ≡ bucketOf x) × (r < 16384) ⌝ }
 {
-    x % 8191
+    x % 16381
 }
 
 // Whether no row below i has the key x: a walk along the chain of x's bucket.
-pub fn fresh(key: &[usize], heads: &[u16; 8192], next: &[u16; 4096], i: usize, x: usize) -> bool
+pub fn fresh(key: &[usize], heads: &[u16; 16384], next: &[u16; 4096], i: usize, x: usize) -> bool
     requires { ⌜ (i ≤ 4096) × (i ≤ length (now key)) ⌝ }
     requires { ⌜ Chained (now key) (now heads) (now next) i ⌝ }
     ensures { λ r. ⌜ r ≡ eqb (rowOf (now (key .entry)) i x) i ⌝ }
@@ -53,7 +53,7 @@ pub fn first_key(key: &[usize], n: usize) -> usize
     requires { ⌜ (n ≤ 4096) × (n ≤ length (now key)) ⌝ }
     ensures { λ r. ⌜ r ≡ firstKey (now (key .entry)) n ⌝ }
 {
-    let mut heads = [0u16; 8192];
+    let mut heads = [0u16; 16384];
     let mut next = [0u16; 4096];
     let mut i = 0;
     while i < n {

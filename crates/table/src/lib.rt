@@ -1,11 +1,14 @@
 // What every call checks first, and finding a row by its key: document 01, "The table" and "Finding and editing by key".
 // No column is changed.
 ghost use mathlib.Core.Path.{_≡_};
+ghost use Prim.Native.Nat.{_≤_};
+ghost use lib.ListN.{length};
 ghost use Rattle.tree.specs.Table.{tableOf};
-ghost use Rattle.tree.specs.Outcome.{checkOutcome, findOutcome};
+ghost use Rattle.tree.specs.Outcome.{checkOutcome, findOutcome, located};
 
 pub mod logic; // logic.rt: the smaller of two numbers; tests joined
 pub mod rows; // rows.rt: the rules of a row, and the least row that breaks one
+pub mod pass; // pass.rt: all rows in one pass
 pub mod keys; // keys.rt: the row of a key, and the least row whose key is bad
 
 use tree::Checked;
@@ -32,6 +35,18 @@ pub fn check(
     Checked::Passed
 }
 
+// The row of a key in a table that is known to be sound, or refusal 9.
+pub fn locate(key: &[usize], count: usize, wanted: usize) -> Found
+    requires { ⌜ count ≤ length (now key) ⌝ }
+    ensures { λ r. ⌜ r ≡ located (now (key .entry)) count wanted ⌝ }
+{
+    let row = keys::row_of(key, count, wanted);
+    if row < count {
+        return Found::At(row);
+    }
+    Found::Refused(9, 0)
+}
+
 // The row of a key, or refusal 1, 2 or 9.
 pub fn find(
     key: &[usize],
@@ -47,13 +62,6 @@ pub fn find(
     let checked = check(key, size, level, kind, name, count);
     match checked {
         Checked::Refused(number, place) => Found::Refused(number, place),
-        Checked::Passed => {
-            let row = keys::row_of(key, count, wanted);
-            if row < count {
-                Found::At(row)
-            } else {
-                Found::Refused(9, 0)
-            }
-        }
+        Checked::Passed => locate(key, count, wanted),
     }
 }

@@ -141,8 +141,8 @@ pub fn rest_ok(
     )
 }
 
-// The least row that breaks a rule other than the key's, or the count.
-pub fn first_rest(
+// The least row that breaks a rule other than the key's, or the count, looked for row by row.
+pub fn search_rest(
     key: &[usize],
     size: &[usize],
     level: &[usize],
@@ -161,6 +161,24 @@ pub fn first_rest(
         i += 1;
     }
     i
+}
+
+// The same, by one pass where no row breaks a rule.
+pub fn first_rest(
+    key: &[usize],
+    size: &[usize],
+    level: &[usize],
+    kind: &[usize],
+    name: &[usize],
+    count: usize,
+) -> usize
+    requires { ⌜ InUse (tableOf (now key) (now size) (now level) (now kind) (now name) count) ⌝ }
+    ensures { λ r. ⌜ r ≡ firstRest (tableOf (now (key .entry)) (now (size .entry)) (now (level .entry)) (now (kind .entry)) (now (name .entry)) count) ⌝ }
+{
+    if crate::pass::all_fit(key, size, level, kind, name, count) {
+        return count;
+    }
+    search_rest(key, size, level, kind, name, count)
 }
 
 // The least row that is not sound, or the count.

@@ -16,7 +16,7 @@ use Rattle.tree.specs.Step.{Ask, listed, reached, linesOf, stepList}
 use Rattle.tree.specs.Kept.{drops, remaining, keptCount}
 use Rattle.tree.specs.Edit.{opened, closed, changed, gapOf, inserted, deleted, renamed, minus, insertDone, deleteDone, renameDone}
 use Rattle.tree.specs.Refusal.{given, givenAt, next, tableCheck, pairCheck, askCheck, roomCheck, keyCheck, badPiece, insertCheck, deleteCheck, renameCheck}
-use Rattle.tree.specs.Outcome.{StepOutcome, EditOutcome, checkOutcome, findOutcome, foundIf, stepOutcome, stepIf, stepCheck, overwritten, editIf, editCheck, insertOutcome, deleteOutcome, renameOutcome}
+use Rattle.tree.specs.Outcome.{StepOutcome, EditOutcome, checkOutcome, findOutcome, foundIf, located, stepOutcome, stepIf, stepCheck, overwritten, editIf, editCheck, insertOutcome, deleteOutcome, renameOutcome}
 use Rattle.tree.specs.declared.Checked.{Checked}
 use Rattle.tree.specs.declared.Checked.the-variants.{Passed, Refused}
 use Rattle.tree.specs.declared.Found.{Found}
@@ -245,5 +245,5 @@ cases =
     []
 
 pub small-farm : map (λ c. run (c .call)) cases ≡ map (λ c. c .gives) cases
-unfolding checkOutcome findOutcome foundIf stepOutcome stepIf stepCheck overwritten editIf editCheck insertOutcome deleteOutcome renameOutcome given givenAt next tableCheck pairCheck askCheck roomCheck keyCheck badPiece insertCheck deleteCheck renameCheck opened closed changed gapOf inserted deleted renamed minus insertDone deleteDone renameDone drops remaining keptCount listed reached linesOf stepList pairsOf withRole rolesOf rowsOf before outOfOrder some distinct testOk passes axisOk following preceding onAxis parent above ancestor siblings levelOk runOf sizeOf sizeOk kindOk hasName nameOk rowOf keyOk restOk rowOk firstBad shortest countOk least nearest gather
+unfolding checkOutcome findOutcome foundIf located stepOutcome stepIf stepCheck overwritten editIf editCheck insertOutcome deleteOutcome renameOutcome given givenAt next tableCheck pairCheck askCheck roomCheck keyCheck badPiece insertCheck deleteCheck renameCheck opened closed changed gapOf inserted deleted renamed minus insertDone deleteDone renameDone drops remaining keptCount listed reached linesOf stepList pairsOf withRole rolesOf rowsOf before outOfOrder some distinct testOk passes axisOk following preceding onAxis parent above ancestor siblings levelOk runOf sizeOf sizeOk kindOk hasName nameOk rowOf keyOk restOk rowOk firstBad shortest countOk least nearest gather
 small-farm = refl

@@ -187,7 +187,7 @@ module _ (axis : ℕ) (level : List ℕ) where
   unfolding drops
   kept-all g ps p =
       let k : In p (kept ps) ↔ (In p ps × Free ps p (λ _. false)) = kept-by ps p _
-          (λ d. ⊎-elim (λ e. rw e) (⊎-elim (λ e. rw e) (⊎-elim (λ e. rw e) (⊎-elim (λ e. rw e) (λ e. rw e)))) g) in
+      (λ d. ⊎-elim (λ e. rw e) (⊎-elim (λ e. rw e) (⊎-elim (λ e. rw e) (⊎-elim (λ e. rw e) (λ e. rw e)))) g) in
       (λ i. k .0 i .0, λ i. k .1 (i, λ d j. refl))
 
   -- on 8 and 9 the pair on the least row of its role remains
@@ -273,16 +273,16 @@ pub kept-split : (axis : ℕ) (level : List ℕ) (xs ys : List Pair) → RolesBe
 unfolding keptCount
 kept-split axis level xs ys h =
     ap length (
-      remaining-among axis level (xs ++ ys) xs xs ys
-      (λ f p i. some-append f (p .role) xs ys
-          ∙ ap (λ (b : Bool). some f (p .role) xs || b)
-          (some-none f (p .role) ys (λ q j e. let z : p .role < q .role = h p q i j in omega arith))
-          ∙ or-no (some f (p .role) xs))
-      (λ p i q j e. let z : p .role < q .role = h p q i j in omega arith)
-      ∙ ap (λ (l : List Pair). remaining axis level xs xs ++ l) (
-        remaining-ext axis level (xs ++ ys) ys ys
-        (λ f q j. some-append f (q .role) xs ys ∙ ap (λ (b : Bool). b || some f (q .role) ys)
-            (some-none f (q .role) xs (λ p i e. let z : p .role < q .role = h p q i j in omega arith)))
-      )
+    remaining-among axis level (xs ++ ys) xs xs ys
+    (λ f p i. some-append f (p .role) xs ys
+    ∙ ap (λ (b : Bool). some f (p .role) xs || b)
+    (some-none f (p .role) ys (λ q j e. let z : p .role < q .role = h p q i j in omega arith))
+    ∙ or-no (some f (p .role) xs))
+    (λ p i q j e. let z : p .role < q .role = h p q i j in omega arith)
+    ∙ ap (λ (l : List Pair). remaining axis level xs xs ++ l) (
+    remaining-ext axis level (xs ++ ys) ys ys
+    (λ f q j. some-append f (q .role) xs ys ∙ ap (λ (b : Bool). b || some f (q .role) ys)
+    (some-none f (q .role) xs (λ p i e. let z : p .role < q .role = h p q i j in omega arith)))
+    )
     )
     ∙ length-append (remaining axis level xs xs) (remaining axis level ys ys)

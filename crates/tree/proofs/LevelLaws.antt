@@ -71,12 +71,12 @@ module _ {size level : List ℕ} {n : ℕ} (s : Shape size level n) where
       let up = under-parent level n (shape-steps s) w p l e in
       same-test _ _
       (λ h. ⊎-elim (λ q. either-left _ (eq-eqb c p q))
-          (λ u. either-right (eqb c p) (ancestor-under level n (shape-steps s) c p (omega arith) .1 u))
-          (under-step c w p l e (ancestor-under level n (shape-steps s) c w l .0 h)))
+      (λ u. either-right (eqb c p) (ancestor-under level n (shape-steps s) c p (omega arith) .1 u))
+      (under-step c w p l e (ancestor-under level n (shape-steps s) c w l .0 h)))
       (λ h. ancestor-under level n (shape-steps s) c w l .1 (⊎-elim
-          (λ q. let z : c ≡ p = eqb-true c p q in rw z up)
-          (λ q. under-up c w p up (ancestor-under level n (shape-steps s) c p (omega arith) .0 q))
-          (either (eqb c p) _ h)))
+      (λ q. let z : c ≡ p = eqb-true c p q in rw z up)
+      (λ q. under-up c w p up (ancestor-under level n (shape-steps s) c p (omega arith) .0 q))
+      (either (eqb c p) _ h)))
 
   -- a row above level 0 has a parent
   pub has-parent : (w : ℕ) → w < n → 1 ≤ at level w → (p : ℕ) × (parent level w ≡ suc p)

@@ -44,7 +44,7 @@ pub flip : {a : Bool} → a ≡ false → not a ≡ true
 flip p = ap not p
 
 -- ── the five rules ──
-level-there : (level : List ℕ) (i : ℕ) → levelOk level i ≡ true → LevelRule level i
+pub level-there : (level : List ℕ) (i : ℕ) → levelOk level i ≡ true → LevelRule level i
 unfolding levelOk
 level-there level i e = go (eqb i 0) refl e
   where
@@ -60,7 +60,7 @@ level-there level i e = go (eqb i 0) refl e
         let b = both (leb 1 (at level i)) _ (a .0) in
         record { root = λ q. absurd (eqb-false _ _ p q); later = λ l. (leb-true _ _ (b .0), leb-true _ _ (a .1)); low = leb-true _ _ (b .1) }
 
-level-back : (level : List ℕ) (i : ℕ) → LevelRule level i → levelOk level i ≡ true
+pub level-back : (level : List ℕ) (i : ℕ) → LevelRule level i → levelOk level i ≡ true
 unfolding levelOk
 level-back level i h = go (eqb i 0) refl
   where

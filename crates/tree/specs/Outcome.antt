@@ -1,7 +1,9 @@
 -- What each public call answers, and what the lent columns hold afterwards: on every input, on refusals too.
 -- Assumes nothing.
 use Prim.Native.Nat.{ℕ}
+use mathlib.Core.Bool.{cond}
 use mathlib.Core.List.{List, _++_}
+use lib.Dec.{ltb}
 use lib.ListN.{length, drop}
 use Rattle.tree.specs.Table.{Table}
 use Rattle.tree.specs.Sound.{rowOf}
@@ -25,12 +27,16 @@ unfoldable pub checkOutcome : Table → Checked
 checkOutcome t = tableCheck t
 
 -- ── find: 1, 2, 9 ──
-unfoldable pub foundIf : Checked → ℕ → Found
-foundIf Passed r = At r
-foundIf (Refused m p) r = NotFound m p
+-- the row of a key among the first n rows, or 9
+unfoldable pub located : List ℕ → ℕ → ℕ → Found
+located key n k = cond (ltb (rowOf key n k) n) (At (rowOf key n k)) (NotFound 9 0)
+
+unfoldable pub foundIf : Checked → Found → Found
+foundIf Passed f = f
+foundIf (Refused m p) f = NotFound m p
 
 unfoldable pub findOutcome : Table → ℕ → Found
-findOutcome t k = foundIf (next (tableCheck t) (keyCheck t k)) (rowOf (t .key) (t .count) k)
+findOutcome t k = foundIf (tableCheck t) (located (t .key) (t .count) k)
 
 -- ── step: 1 to 8 ──
 pub record StepOutcome : Type 0 where

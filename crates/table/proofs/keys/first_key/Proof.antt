@@ -15,7 +15,7 @@ use Rattle.table.proofs.keys.first_key.Statement.{statement}
 use Rattle.table.proofs.keys.first_key.Tie as tie
 
 abbrev Inv-loop : tie.InvT-loop
-Inv-loop key n heads₀ next₀ i₀ heads next i = (i ≤ n) × (length heads ≡ 8192) × (length next ≡ 4096) × Chained key heads next i × ((j : ℕ) → j < i → not (keyOk key j) ≡ false)
+Inv-loop key n heads₀ next₀ i₀ heads next i = (i ≤ n) × (length heads ≡ 16384) × (length next ≡ 4096) × Chained key heads next i × ((j : ℕ) → j < i → not (keyOk key j) ≡ false)
 
 abbrev μ-loop : tie.MeasureT-loop
 μ-loop key n heads₀ next₀ i₀ heads next i = n - i

@@ -1,60 +1,20 @@
-use mathlib.Core.Bool.{not}
-use Prim.Native.Nat.{ℕ, _≤_, _<_, _-_}
-use mathlib.Core.Path.{_≡_, sym, ap, _∙_}
-use mathlib.Core.Bool.{false}
-use native.Mathlib.Omega.{arith}
-use native.Mathlib.Nat.{le-antisymm}
-use lib.Dec.{leb, eqb}
-use lib.ListN.{length, getD}
-use borrow.Author.Count.{below-more, below-none}
-use borrow.Author.Tests.{ne-eqb, eq-eqb, le-leb, lt-leb}
-use Rattle.tree.proofs.SearchLaws.{least-at, least-end}
-use Rattle.tree.specs.Table.{tableOf}
-use Rattle.table.specs.First.{firstRest}
-use Rattle.tree.specs.Sound.{restOk}
+-- `table::rows::first_rest` meets its contract: the pass says that there is none, or the search finds it. Assumes nothing.
+use mathlib.Core.Path.{sym}
 use borrow.Author.Needs.{needs}
 use Rattle.table.proofs.rows.first_rest.Statement.{statement}
 use Rattle.table.proofs.rows.first_rest.Tie as tie
 
-abbrev Inv-loop : tie.InvT-loop
-Inv-loop key size level kind name count i₀ i = (i ≤ count) × ((j : ℕ) → j < i → not (restOk (tableOf key size level kind name count) j) ≡ false)
+all-fit-requires : tie.Need-all-fit-requires
+all-fit-requires c κs = search needs
 
-abbrev μ-loop : tie.MeasureT-loop
-μ-loop key size level kind name count i₀ i = count - i
+returns : tie.Need-returns
+returns c = sym (c .before .all-fit .ensures (c .if1 .taken))
 
-loop-holds : tie.Need-loop-holds Inv-loop μ-loop
-loop-holds c = (search needs, below-none _)
+search-rest-requires : tie.Need-search-rest-requires
+search-rest-requires c κs = search needs
 
-rest-ok-requires : tie.Need-rest-ok-requires Inv-loop μ-loop
-rest-ok-requires c κs = search needs
-
-returns : tie.Need-returns Inv-loop μ-loop
-unfolding firstRest
-returns c = sym (least-at _ _ _ (c .before .before .loop-test .taken) (c .before .before .before .loop .inv .1) (ap not (sym (c .before .rest-ok .ensures)) ∙ c .if1 .taken))
-
-add-i : tie.Need-add-i Inv-loop μ-loop
-add-i c = search needs
-
-loop-less : tie.Need-loop-less Inv-loop μ-loop
-loop-less c = search needs
-
-loop-again : tie.Need-loop-again Inv-loop μ-loop
-loop-again c = (search needs, below-more _ _ (c .before .before .before .loop .inv .1) (ap not (sym (c .before .rest-ok .ensures)) ∙ c .if1 .left))
-
-returns-2 : tie.Need-returns-2 Inv-loop μ-loop
-unfolding firstRest
-returns-2 c = least-end _ _ _ (c .before .loop .inv .0) (c .loop-test .left) (c .before .loop .inv .1)
+returns-2 : tie.Need-returns-2
+returns-2 c = search needs
 
 pub first-rest-spec : {M : Type 1} → statement M
-first-rest-spec =
-    tie.close
-    (tie.spec
-    Inv-loop
-    μ-loop
-    loop-holds
-    rest-ok-requires
-    returns
-    add-i
-    loop-less
-    loop-again
-    returns-2)
+first-rest-spec = tie.close (tie.spec all-fit-requires returns search-rest-requires returns-2)
