@@ -1,0 +1,55 @@
+/*
+ * The reach engine for C. Link target/staticlib/libreach_c.a, which `rt staticlib reach_c` writes.
+ *
+ * A plant is a table of five columns (key, size, level, kind, name) with a count of rows in use; rows are numbered from 0 in
+ * document order. A column may be longer than the count; its spare rows are never read. Every column is lent for the call
+ * alone: the library keeps no pointer, allocates nothing and may be called from several threads on different columns.
+ *
+ * Each column is passed as a pointer and its length in elements. No input needs checking first: a bad table or key gets a
+ * refusal, and a refused call changes no column. Two duties remain with the caller, as for any C function: a pointer is
+ * never null (also at length 0) and reaches as many elements as the length says, and a column that a function may write
+ * overlaps no other column of the call.
+ *
+ * Nodes: kind 0 document, 1 element, 2 text, 3 comment, 4 processing instruction. Limits: 1 to 4,096 rows, levels 0 to 63.
+ */
+#ifndef REACH_H
+#define REACH_H
+
+#include <stddef.h>
+#include <stdint.h>
+
+#ifdef __cplusplus
+extern "C" {
+#endif
+
+/* What a call answers. What a function does not use is 0; on a refusal all but refusal and place are 0. */
+typedef struct {
+    size_t refusal; /* 0: accepted; else the number below */
+    size_t place;   /* where: a row, a pair's place or a number of results, by the number; else 0 */
+    size_t first;   /* find: the row */
+    size_t second;  /* not used yet */
+    int64_t moved;  /* not used yet */
+} reach_answer;
+
+/* Refusal numbers. Where several apply, the lowest is given. */
+enum {
+    REACH_BAD_COUNT = 1,   /* the count is 0, above 4,096, or above the shortest table column; place 0 */
+    REACH_UNSOUND_ROW = 2, /* a row is not sound; place: the least such row */
+    REACH_NO_SUCH_KEY = 9  /* no row in use has the key (always so for key 0); place 0 */
+};
+
+/* Checks the table: refusals 1 and 2. Writes nothing. */
+reach_answer reach_check(const size_t *key, size_t key_length, const size_t *size, size_t size_length,
+                         const size_t *level, size_t level_length, const size_t *kind, size_t kind_length,
+                         const size_t *name, size_t name_length, size_t count);
+
+/* Finds the row of a key, in first: refusals 1, 2 and 9. Writes nothing. */
+reach_answer reach_find(const size_t *key, size_t key_length, const size_t *size, size_t size_length,
+                        const size_t *level, size_t level_length, const size_t *kind, size_t kind_length,
+                        const size_t *name, size_t name_length, size_t count, size_t wanted);
+
+#ifdef __cplusplus
+}
+#endif
+
+#endif
