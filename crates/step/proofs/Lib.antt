@@ -1,0 +1,12 @@
+pub mod WantLaws
+pub mod WroteLaws
+pub mod AppendedLaws
+pub mod ScanLaws
+pub mod RangeLaws
+pub mod SpanLaws
+pub mod SideLaws
+pub mod BitLaws
+pub mod LeftLaws
+pub mod RowSetLaws
+pub mod WordLaws
+pub mod DrainLaws

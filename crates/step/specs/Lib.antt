@@ -1,0 +1,4 @@
+pub mod Want
+pub mod Reach
+pub mod Range
+pub mod RowSet

@@ -1,0 +1,5 @@
+// One location step for all roles.
+pub mod want; // want.rt: the node test as a wanted kind and a wanted name
+pub mod scan; // scan.rt: the rows of a range that fit
+pub mod ranges; // ranges.rt: the axes whose rows come out as ranges
+pub mod row_set; // row_set.rt: a set of rows
