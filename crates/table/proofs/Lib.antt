@@ -1,2 +1,3 @@
 pub mod KeyLaws
 pub mod OpenLaws
+pub mod PairLaws
