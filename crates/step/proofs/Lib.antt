@@ -10,3 +10,13 @@ pub mod LeftLaws
 pub mod RowSetLaws
 pub mod WordLaws
 pub mod DrainLaws
+pub mod MarkLaws
+pub mod OpenLaws
+pub mod HopLaws
+pub mod ClimbLaws
+pub mod TurnLaws
+pub mod ChildLaws
+pub mod AncestorLaws
+pub mod SiblingLaws
+pub mod LaterLaws
+pub mod EarlierLaws

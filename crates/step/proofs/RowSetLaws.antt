@@ -34,12 +34,12 @@ pub unmarked-zero : {words : List ℕ} {used j : ℕ} → RowSet words used → 
 unmarked-zero {words} {used} {j} s l e = eqb-true (at words j) 0 (not-false _ (sym (s .marks j l) ∙ e))
 
 -- a blank set has no row
-pub has-blank : (words : List ℕ) (w : ℕ) → Blank words → w < 4096 → has words w ≡ false
-has-blank words w b l = has-zero words w (b .zero (w / 64) (omega arith))
+pub has-blank : {words : List ℕ} → Blank words → (w : ℕ) → w < 4096 → has words w ≡ false
+has-blank {words} b w l = has-zero words w (b .zero (w / 64) (omega arith))
 
 -- it is a set none of whose words is marked
-pub blank-set : (words : List ℕ) → Blank words → RowSet words 0
-blank-set words b = record { marks = λ j l. bit-zero j ∙ sym (ap not (eq-eqb (at words j) 0 (b .zero j l))) }
+pub blank-set : {words : List ℕ} → Blank words → RowSet words 0
+blank-set {words} b = record { marks = λ j l. bit-zero j ∙ sym (ap not (eq-eqb (at words j) 0 (b .zero j l))) }
 
 -- 64 zeros are one
 pub blank-zeros : Blank (replicate 64 0)

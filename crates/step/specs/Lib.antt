@@ -2,3 +2,4 @@ pub mod Want
 pub mod Reach
 pub mod Range
 pub mod RowSet
+pub mod Mark

@@ -8,7 +8,8 @@ use lib.Dec.{ltb, leb, eqb}
 use lib.ListN.{length}
 use Rattle.tree.specs.Table.{at}
 use Rattle.tree.specs.Search.{gather}
-use Rattle.step.specs.Reach.{anyOn, Wrote}
+use Rattle.tree.specs.Rules.{Shape}
+use Rattle.step.specs.Reach.{anyOn, Contexts, Wrote}
 use Rattle.step.specs.Want.{fits}
 
 -- bit b of a word is set
@@ -36,6 +37,12 @@ pub record Added (old : List ℕ) (x : ℕ) (new : List ℕ) (used : ℕ) : Type
 pub record Marked (axis : ℕ) (level : List ℕ) (n : ℕ) (cs : List ℕ) (words : List ℕ) (used : ℕ) : Type 0 where
   pub set : RowSet words used
   pub rows : (w : ℕ) → w < 4096 → has words w ≡ (ltb w n && anyOn axis level cs w)
+
+-- the columns of a table, contexts in it and an empty set: what each function that marks an axis asks for
+pub record Marks (size level : List ℕ) (n : ℕ) (cs words : List ℕ) : Type 0 where
+  pub shape : Shape size level n
+  pub contexts : Contexts cs n
+  pub blank : Blank words
 
 -- row w is in the word whose first row is base
 unfoldable pub inWord : ℕ → ℕ → ℕ → Bool

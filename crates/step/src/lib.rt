@@ -3,3 +3,5 @@ pub mod want; // want.rt: the node test as a wanted kind and a wanted name
 pub mod scan; // scan.rt: the rows of a range that fit
 pub mod ranges; // ranges.rt: the axes whose rows come out as ranges
 pub mod row_set; // row_set.rt: a set of rows
+mod walk; // walk.rt: from sibling to sibling, and from a row up to the root
+pub mod mark; // mark.rt: the axes whose rows are put into a set
