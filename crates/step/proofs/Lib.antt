@@ -20,3 +20,4 @@ pub mod AncestorLaws
 pub mod SiblingLaws
 pub mod LaterLaws
 pub mod EarlierLaws
+pub mod RoleAxisLaws

@@ -3,3 +3,4 @@ pub mod Reach
 pub mod Range
 pub mod RowSet
 pub mod Mark
+pub mod Role

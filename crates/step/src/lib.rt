@@ -5,3 +5,4 @@ pub mod ranges; // ranges.rt: the axes whose rows come out as ranges
 pub mod row_set; // row_set.rt: a set of rows
 mod walk; // walk.rt: from sibling to sibling, and from a row up to the root
 pub mod mark; // mark.rt: the axes whose rows are put into a set
+pub mod role; // role.rt: one role on any axis

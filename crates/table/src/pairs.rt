@@ -8,7 +8,6 @@ ghost use Rattle.tree.specs.Search.{least};
 ghost use Rattle.tree.specs.Table.{at};
 ghost use Rattle.tree.specs.Pairs.{before, outOfOrder};
 ghost use Rattle.tree.specs.Refusal.{pairCheck};
-
 use tree::Checked;
 
 // Whether the pair (r, v) comes before the pair (q, w).
