@@ -7,6 +7,10 @@
 
 #![allow(unsafe_code)]
 
+#[cfg(feature = "edit")]
+use crate::TableMut;
+#[cfg(feature = "step")]
+use crate::{Pairs, Results};
 use crate::{Refusal, Table};
 
 /// What the library answers. What a function doesn't use is 0; on a refusal all but the first
@@ -65,45 +69,186 @@ extern "C" {
         count: usize,
         wanted: usize,
     ) -> Answer;
+
+    #[cfg(feature = "step")]
+    fn reach_step(
+        key: *const usize,
+        key_length: usize,
+        size: *const usize,
+        size_length: usize,
+        level: *const usize,
+        level_length: usize,
+        kind: *const usize,
+        kind_length: usize,
+        name: *const usize,
+        name_length: usize,
+        count: usize,
+        role: *const usize,
+        role_length: usize,
+        row: *const usize,
+        row_length: usize,
+        axis: usize,
+        test: usize,
+        test_name: usize,
+        out_role: *mut usize,
+        out_role_length: usize,
+        out_row: *mut usize,
+        out_row_length: usize,
+    ) -> Answer;
+
+    #[cfg(feature = "edit")]
+    fn reach_insert(
+        key: *mut usize,
+        key_length: usize,
+        size: *mut usize,
+        size_length: usize,
+        level: *mut usize,
+        level_length: usize,
+        kind: *mut usize,
+        kind_length: usize,
+        name: *mut usize,
+        name_length: usize,
+        count: usize,
+        parent: usize,
+        p_key: *const usize,
+        p_key_length: usize,
+        p_size: *const usize,
+        p_size_length: usize,
+        p_level: *const usize,
+        p_level_length: usize,
+        p_kind: *const usize,
+        p_kind_length: usize,
+        p_name: *const usize,
+        p_name_length: usize,
+        p_count: usize,
+    ) -> Answer;
+
+    #[cfg(feature = "edit")]
+    fn reach_delete(
+        key: *mut usize,
+        key_length: usize,
+        size: *mut usize,
+        size_length: usize,
+        level: *mut usize,
+        level_length: usize,
+        kind: *mut usize,
+        kind_length: usize,
+        name: *mut usize,
+        name_length: usize,
+        count: usize,
+        wanted: usize,
+    ) -> Answer;
+
+    #[cfg(feature = "edit")]
+    fn reach_rename(
+        key: *mut usize,
+        key_length: usize,
+        size: *mut usize,
+        size_length: usize,
+        level: *mut usize,
+        level_length: usize,
+        kind: *mut usize,
+        kind_length: usize,
+        name: *mut usize,
+        name_length: usize,
+        count: usize,
+        wanted: usize,
+        new_name: usize,
+    ) -> Answer;
+}
+
+/// Calls an exported function with the columns and the count of a table, then with the rest.
+macro_rules! call {
+    ($function:ident, $table:expr, $pointer:ident $(, $more:expr)*) => {
+        // SAFETY: each pointer and length come from one slice, which stays lent during the call;
+        // a slice whose pointer is passed as `*mut` is lent to this call alone.
+        unsafe {
+            $function(
+                $table.key.$pointer(),
+                $table.key.len(),
+                $table.size.$pointer(),
+                $table.size.len(),
+                $table.level.$pointer(),
+                $table.level.len(),
+                $table.kind.$pointer(),
+                $table.kind.len(),
+                $table.name.$pointer(),
+                $table.name.len(),
+                $table.count
+                $(, $more)*
+            )
+        }
+    };
 }
 
 /// Checks a table: refusals 1 and 2.
 pub fn check(table: Table<'_>) -> Answer {
-    // SAFETY: each pointer and length come from one slice, which stays lent during the call.
-    unsafe {
-        reach_check(
-            table.key.as_ptr(),
-            table.key.len(),
-            table.size.as_ptr(),
-            table.size.len(),
-            table.level.as_ptr(),
-            table.level.len(),
-            table.kind.as_ptr(),
-            table.kind.len(),
-            table.name.as_ptr(),
-            table.name.len(),
-            table.count,
-        )
-    }
+    call!(reach_check, table, as_ptr)
 }
 
 /// Finds the row of a key: refusals 1, 2 and 9.
 pub fn find(table: Table<'_>, wanted: usize) -> Answer {
-    // SAFETY: as in `check`.
-    unsafe {
-        reach_find(
-            table.key.as_ptr(),
-            table.key.len(),
-            table.size.as_ptr(),
-            table.size.len(),
-            table.level.as_ptr(),
-            table.level.len(),
-            table.kind.as_ptr(),
-            table.kind.len(),
-            table.name.as_ptr(),
-            table.name.len(),
-            table.count,
-            wanted,
-        )
-    }
+    call!(reach_find, table, as_ptr, wanted)
+}
+
+/// Takes a step with an axis code, a test code and a name: refusals 1 to 8.
+#[cfg(feature = "step")]
+pub fn step(
+    table: Table<'_>,
+    pairs: Pairs<'_>,
+    axis: usize,
+    test: usize,
+    test_name: usize,
+    results: Results<'_>,
+) -> Answer {
+    call!(
+        reach_step,
+        table,
+        as_ptr,
+        pairs.role.as_ptr(),
+        pairs.role.len(),
+        pairs.row.as_ptr(),
+        pairs.row.len(),
+        axis,
+        test,
+        test_name,
+        results.role.as_mut_ptr(),
+        results.role.len(),
+        results.row.as_mut_ptr(),
+        results.row.len()
+    )
+}
+
+/// Makes a piece the last child of the row with the key `parent`: refusals 1, 2 and 9 to 14.
+#[cfg(feature = "edit")]
+pub fn insert(table: &mut TableMut<'_>, parent: usize, piece: Table<'_>) -> Answer {
+    call!(
+        reach_insert,
+        table,
+        as_mut_ptr,
+        parent,
+        piece.key.as_ptr(),
+        piece.key.len(),
+        piece.size.as_ptr(),
+        piece.size.len(),
+        piece.level.as_ptr(),
+        piece.level.len(),
+        piece.kind.as_ptr(),
+        piece.kind.len(),
+        piece.name.as_ptr(),
+        piece.name.len(),
+        piece.count
+    )
+}
+
+/// Deletes the row with the key and its descendants: refusals 1, 2, 9 and 15.
+#[cfg(feature = "edit")]
+pub fn delete(table: &mut TableMut<'_>, wanted: usize) -> Answer {
+    call!(reach_delete, table, as_mut_ptr, wanted)
+}
+
+/// Gives the row with the key another name: refusals 1, 2, 9 and 16.
+#[cfg(feature = "edit")]
+pub fn rename(table: &mut TableMut<'_>, wanted: usize, new_name: usize) -> Answer {
+    call!(reach_rename, table, as_mut_ptr, wanted, new_name)
 }

@@ -1,15 +1,27 @@
 //! The two programs that race.
 
+#[cfg(feature = "step")]
+use crate::steps::Step;
 use crate::tables::Columns;
 
-/// A program that can be timed. What a call answers is its refusal and first number, so that
-/// both programs can be seen to have done the same work.
+/// What both programs must answer alike: the refusal and the two numbers after it.
+pub type Seen = (usize, usize, usize);
+
+/// A program that can be timed.
 pub trait Engine {
-    fn check(&self, table: &Columns) -> (usize, usize);
-    fn find(&self, table: &Columns, wanted: usize) -> (usize, usize);
+    fn check(&self, table: &Columns) -> Seen;
+    fn find(&self, table: &Columns, wanted: usize) -> Seen;
+    #[cfg(feature = "step")]
+    fn step(&self, table: &Columns, step: &mut Step) -> Seen;
+    #[cfg(feature = "edit")]
+    fn insert(&self, table: &mut Columns, parent: usize, piece: &Columns) -> Seen;
+    #[cfg(feature = "edit")]
+    fn delete(&self, table: &mut Columns, wanted: usize) -> Seen;
+    #[cfg(feature = "edit")]
+    fn rename(&self, table: &mut Columns, wanted: usize, new_name: usize) -> Seen;
 }
 
-/// All rows of the columns as a table of another package.
+/// The columns as a table of a package.
 macro_rules! lend {
     ($package:ident, $columns:expr) => {
         $package::Table {
@@ -23,18 +35,63 @@ macro_rules! lend {
     };
 }
 
+/// The same, to be changed.
+#[cfg(feature = "edit")]
+macro_rules! lend_mut {
+    ($package:ident, $columns:expr) => {
+        $package::TableMut {
+            key: &mut $columns.key,
+            size: &mut $columns.size,
+            level: &mut $columns.level,
+            kind: &mut $columns.kind,
+            name: &mut $columns.name,
+            count: $columns.count,
+        }
+    };
+}
+
+macro_rules! seen {
+    ($answer:expr) => {{
+        let answer = $answer;
+        (answer.refusal, answer.first, answer.second)
+    }};
+}
+
 /// Plain, unverified Rust.
 pub struct Plain;
 
 impl Engine for Plain {
-    fn check(&self, table: &Columns) -> (usize, usize) {
-        let answer = plain::check(&lend!(plain, table));
-        (answer.refusal, answer.first)
+    fn check(&self, table: &Columns) -> Seen {
+        seen!(plain::check(&lend!(plain, table)))
     }
 
-    fn find(&self, table: &Columns, wanted: usize) -> (usize, usize) {
-        let answer = plain::find(&lend!(plain, table), wanted);
-        (answer.refusal, answer.first)
+    fn find(&self, table: &Columns, wanted: usize) -> Seen {
+        seen!(plain::find(&lend!(plain, table), wanted))
+    }
+
+    #[cfg(feature = "step")]
+    fn step(&self, table: &Columns, step: &mut Step) -> Seen {
+        seen!(plain::step(
+            &lend!(plain, table),
+            &plain::Pairs { role: &step.role, row: &step.row },
+            plain::Question { axis: step.axis, test: step.test, test_name: step.test_name },
+            &mut plain::Results { role: &mut step.out_role, row: &mut step.out_row },
+        ))
+    }
+
+    #[cfg(feature = "edit")]
+    fn insert(&self, table: &mut Columns, parent: usize, piece: &Columns) -> Seen {
+        seen!(plain::insert(&mut lend_mut!(plain, table), parent, &lend!(plain, piece)))
+    }
+
+    #[cfg(feature = "edit")]
+    fn delete(&self, table: &mut Columns, wanted: usize) -> Seen {
+        seen!(plain::delete(&mut lend_mut!(plain, table), wanted))
+    }
+
+    #[cfg(feature = "edit")]
+    fn rename(&self, table: &mut Columns, wanted: usize, new_name: usize) -> Seen {
+        seen!(plain::rename(&mut lend_mut!(plain, table), wanted, new_name))
     }
 }
 
@@ -44,13 +101,38 @@ pub struct Library;
 
 #[cfg(feature = "library")]
 impl Engine for Library {
-    fn check(&self, table: &Columns) -> (usize, usize) {
-        let answer = reach::boundary::check(lend!(reach, table));
-        (answer.refusal, answer.first)
+    fn check(&self, table: &Columns) -> Seen {
+        seen!(reach::boundary::check(lend!(reach, table)))
     }
 
-    fn find(&self, table: &Columns, wanted: usize) -> (usize, usize) {
-        let answer = reach::boundary::find(lend!(reach, table), wanted);
-        (answer.refusal, answer.first)
+    fn find(&self, table: &Columns, wanted: usize) -> Seen {
+        seen!(reach::boundary::find(lend!(reach, table), wanted))
+    }
+
+    #[cfg(feature = "step")]
+    fn step(&self, table: &Columns, step: &mut Step) -> Seen {
+        seen!(reach::boundary::step(
+            lend!(reach, table),
+            reach::Pairs { role: &step.role, row: &step.row },
+            step.axis,
+            step.test,
+            step.test_name,
+            reach::Results { role: &mut step.out_role, row: &mut step.out_row },
+        ))
+    }
+
+    #[cfg(feature = "edit")]
+    fn insert(&self, table: &mut Columns, parent: usize, piece: &Columns) -> Seen {
+        seen!(reach::boundary::insert(&mut lend_mut!(reach, table), parent, lend!(reach, piece)))
+    }
+
+    #[cfg(feature = "edit")]
+    fn delete(&self, table: &mut Columns, wanted: usize) -> Seen {
+        seen!(reach::boundary::delete(&mut lend_mut!(reach, table), wanted))
+    }
+
+    #[cfg(feature = "edit")]
+    fn rename(&self, table: &mut Columns, wanted: usize, new_name: usize) -> Seen {
+        seen!(reach::boundary::rename(&mut lend_mut!(reach, table), wanted, new_name))
     }
 }

@@ -6,9 +6,13 @@
 #![allow(missing_docs)]
 
 mod checks;
+#[cfg(feature = "edit")]
+mod edits;
 mod engine;
 mod race;
 mod report;
+#[cfg(feature = "step")]
+mod steps;
 mod tables;
 
 use engine::{Engine, Plain};
@@ -18,6 +22,10 @@ fn main() {
     let race = Race { ours: ours(), plain: Box::new(Plain) };
     println!("each line takes about a tenth of a second");
     checks::run(&race);
+    #[cfg(feature = "step")]
+    steps::run(&race);
+    #[cfg(feature = "edit")]
+    edits::run(&race);
 }
 
 #[cfg(feature = "library")]

@@ -1,6 +1,8 @@
 //! Times two programs by turns, so that what else the machine does hits both.
 
-use crate::engine::Engine;
+use crate::engine::{Engine, Seen};
+#[cfg(feature = "edit")]
+use crate::tables::Columns;
 use std::hint::black_box;
 use std::time::{Duration, Instant};
 
@@ -18,8 +20,15 @@ pub struct Times {
 }
 
 impl Times {
+    const NONE: Times = Times { ours: f64::INFINITY, plain: f64::INFINITY };
+
     pub fn ratio(&self) -> f64 {
         self.ours / self.plain
+    }
+
+    fn take(&mut self, ours: f64, plain: f64) {
+        self.ours = self.ours.min(ours);
+        self.plain = self.plain.min(plain);
     }
 }
 
@@ -28,20 +37,45 @@ const ROUND: Duration = Duration::from_micros(500);
 const ROUNDS: usize = 100;
 
 impl Race {
-    /// Times a call that changes nothing. Both programs must answer it alike.
-    pub fn time(&self, call: impl Fn(&dyn Engine) -> (usize, usize)) -> Times {
+    /// Times a call that can be repeated as it is. Both programs must answer it alike.
+    pub fn time(&self, mut call: impl FnMut(&dyn Engine) -> Seen) -> Times {
         assert_eq!(call(&*self.ours), call(&*self.plain), "both programs answer alike");
-        let calls = calls_in_a_round(&|| call(&*self.ours));
-        let mut best = Times { ours: f64::INFINITY, plain: f64::INFINITY };
+        let calls = calls_in_a_round(&mut || call(&*self.ours));
+        let mut best = Times::NONE;
         for _ in 0..ROUNDS {
-            best.ours = best.ours.min(round(calls, &|| call(&*self.ours)));
-            best.plain = best.plain.min(round(calls, &|| call(&*self.plain)));
+            let ours = round(calls, &mut || call(&*self.ours));
+            let plain = round(calls, &mut || call(&*self.plain));
+            best.take(ours, plain);
+        }
+        best
+    }
+
+    /// Times a call that changes the table; outside the timing the table is restored.
+    #[cfg(feature = "edit")]
+    pub fn time_edit(
+        &self,
+        start: &Columns,
+        call: impl Fn(&dyn Engine, &mut Columns) -> Seen,
+    ) -> Times {
+        let mut table = start.clone();
+        let mut edit = |engine: &dyn Engine| {
+            table.restore(start);
+            let started = Instant::now();
+            let seen = black_box(call(engine, &mut table));
+            (started.elapsed().as_secs_f64() * 1e6, seen)
+        };
+        assert_eq!(edit(&*self.ours).1, edit(&*self.plain).1, "both programs answer alike");
+        let mut best = Times::NONE;
+        for _ in 0..ROUNDS * 20 {
+            let ours = edit(&*self.ours).0;
+            let plain = edit(&*self.plain).0;
+            best.take(ours, plain);
         }
         best
     }
 }
 
-fn calls_in_a_round(call: &dyn Fn() -> (usize, usize)) -> u32 {
+fn calls_in_a_round(call: &mut dyn FnMut() -> Seen) -> u32 {
     let started = Instant::now();
     let mut calls = 0;
     while started.elapsed() < ROUND {
@@ -52,7 +86,7 @@ fn calls_in_a_round(call: &dyn Fn() -> (usize, usize)) -> u32 {
 }
 
 /// Microseconds a call in one round.
-fn round(calls: u32, call: &dyn Fn() -> (usize, usize)) -> f64 {
+fn round(calls: u32, call: &mut dyn FnMut() -> Seen) -> f64 {
     let started = Instant::now();
     for _ in 0..calls {
         black_box(call());

@@ -2,7 +2,7 @@
 
 use crate::race::Times;
 
-/// The lines of one group, to be taken together at its end.
+/// The ratios of one group, to be taken together at its end.
 pub struct Group {
     ratios: Vec<f64>,
 }
@@ -36,6 +36,13 @@ impl Group {
         println!("  {:<62}{:>8.2}", "geometric mean", self.geometric_mean());
     }
 
+    /// Prints the geometric mean and the worst ratio, and whether they keep within their bars.
+    #[cfg(any(feature = "step", feature = "edit"))]
+    pub fn mean_and_worst(&self, mean_bar: f64, worst_bar: f64) {
+        figure("geometric mean", self.geometric_mean(), mean_bar);
+        figure("worst", self.ratios.iter().copied().fold(0.0, f64::max), worst_bar);
+    }
+
     fn geometric_mean(&self) -> f64 {
         let logarithms: f64 = self.ratios.iter().map(|ratio| ratio.ln()).sum();
         (logarithms / self.ratios.len() as f64).exp()
@@ -49,5 +56,5 @@ pub fn figure(name: &str, value: f64, bar: f64) {
 
 fn mark(value: f64, bar: f64) -> String {
     let verdict = if value <= bar { "PASS" } else { "OVER" };
-    format!("{verdict} (bar {bar})")
+    format!("{verdict} (bar {bar:.1})")
 }

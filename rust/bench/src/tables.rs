@@ -46,3 +46,38 @@ fn sizes(level: &[usize]) -> Vec<usize> {
     let run = |row: usize| level[row + 1..].iter().take_while(move |&&other| other > level[row]);
     (0..level.len()).map(|row| run(row).count()).collect()
 }
+
+/// A plant: turbines of 64 rows, each with three blades, each with twenty setpoints. Names are
+/// 1 for the plant, 2 for a turbine, 3 for a blade and 4 for a setpoint.
+#[cfg(any(feature = "step", feature = "edit"))]
+pub fn plant(rows: usize) -> Columns {
+    let level = |row: usize| match row.checked_sub(1).map(|row| row % 64) {
+        None => 0,
+        Some(0) => 1,
+        Some(in_turbine) if in_turbine % 21 == 1 => 2,
+        Some(_) => 3,
+    };
+    from_levels((0..rows).map(level).collect())
+}
+
+#[cfg(feature = "edit")]
+impl Columns {
+    /// Makes every column as it is in the other table, without a new allocation.
+    pub fn restore(&mut self, other: &Columns) {
+        self.key.copy_from_slice(&other.key);
+        self.size.copy_from_slice(&other.size);
+        self.level.copy_from_slice(&other.level);
+        self.kind.copy_from_slice(&other.kind);
+        self.name.copy_from_slice(&other.name);
+        self.count = other.count;
+    }
+
+    /// Adds spare rows up to the given length.
+    pub fn with_room(mut self, length: usize) -> Columns {
+        let Columns { key, size, level, kind, name, .. } = &mut self;
+        for column in [key, size, level, kind, name] {
+            column.resize(length, 0);
+        }
+        self
+    }
+}

@@ -29,11 +29,35 @@ impl Columns {
     }
 }
 
+/// What a step lends beside the table.
+#[derive(Clone, Debug, Default, PartialEq, Eq)]
+pub struct Step {
+    pub role: Vec<usize>,
+    pub row: Vec<usize>,
+    pub axis: usize,
+    pub test: usize,
+    pub test_name: usize,
+    pub out_role: Vec<usize>,
+    pub out_row: Vec<usize>,
+}
+
+/// What an insertion lends beside the table.
+#[derive(Clone, Debug, Default, PartialEq, Eq)]
+pub struct Insert {
+    pub parent: usize,
+    pub piece: Columns,
+    pub piece_count: usize,
+}
+
 /// What is asked of a table.
 #[derive(Clone, Debug, PartialEq, Eq)]
 pub enum Call {
     Check,
     Find { wanted: usize },
+    Step(Step),
+    Insert(Insert),
+    Delete { wanted: usize },
+    Rename { wanted: usize, new_name: usize },
 }
 
 /// A call, with the table it is about.
@@ -65,15 +89,24 @@ impl Answer {
 pub enum Entry {
     Check,
     Find,
+    Step,
+    Insert,
+    Delete,
+    Rename,
 }
 
 impl Entry {
-    pub const ALL: [Entry; 2] = [Entry::Check, Entry::Find];
+    pub const ALL: [Entry; 6] =
+        [Entry::Check, Entry::Find, Entry::Step, Entry::Insert, Entry::Delete, Entry::Rename];
 
     pub fn name(self) -> &'static str {
         match self {
             Entry::Check => "check",
             Entry::Find => "find",
+            Entry::Step => "step",
+            Entry::Insert => "insert",
+            Entry::Delete => "delete",
+            Entry::Rename => "rename",
         }
     }
 }
@@ -83,12 +116,27 @@ impl Case {
         match self.call {
             Call::Check => Entry::Check,
             Call::Find { .. } => Entry::Find,
+            Call::Step(_) => Entry::Step,
+            Call::Insert(_) => Entry::Insert,
+            Call::Delete { .. } => Entry::Delete,
+            Call::Rename { .. } => Entry::Rename,
         }
     }
 
     /// Every lent column with its name.
     pub fn lent(&self) -> Vec<(String, &[usize])> {
-        named("", &self.table)
+        let mut lent = named("", &self.table);
+        match &self.call {
+            Call::Step(step) => lent.extend([
+                ("role".to_string(), step.role.as_slice()),
+                ("row".to_string(), step.row.as_slice()),
+                ("out_role".to_string(), step.out_role.as_slice()),
+                ("out_row".to_string(), step.out_row.as_slice()),
+            ]),
+            Call::Insert(insert) => lent.extend(named("piece_", &insert.piece)),
+            Call::Check | Call::Find { .. } | Call::Delete { .. } | Call::Rename { .. } => {}
+        }
+        lent
     }
 }
 
@@ -106,8 +154,20 @@ impl fmt::Display for Case {
         }
         writeln!(out, "let count = {};", self.count)?;
         match &self.call {
-            Call::Check => writeln!(out, "// check"),
-            Call::Find { wanted } => writeln!(out, "let wanted = {wanted}; // find"),
+            Call::Check => {}
+            Call::Find { wanted } | Call::Delete { wanted } => {
+                writeln!(out, "let wanted = {wanted};")?;
+            }
+            Call::Step(Step { axis, test, test_name, .. }) => {
+                writeln!(out, "let (axis, test, test_name) = ({axis}, {test}, {test_name});")?;
+            }
+            Call::Insert(Insert { parent, piece_count, .. }) => {
+                writeln!(out, "let (parent, piece_count) = ({parent}, {piece_count});")?;
+            }
+            Call::Rename { wanted, new_name } => {
+                writeln!(out, "let (wanted, new_name) = ({wanted}, {new_name});")?;
+            }
         }
+        writeln!(out, "// {}", self.entry().name())
     }
 }

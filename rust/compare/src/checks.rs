@@ -8,11 +8,11 @@ use crate::random::Random;
 use crate::tables::{add_spare_rows, lengthen, some_key, sound};
 
 /// How many calls on small tables the default run makes.
-pub const CALLS: u64 = 200_000;
+pub const CALLS: u64 = 300_000;
 
 /// Small tables, then tall ones about the deepest level, then large ones about the most rows.
 pub fn run(judge: &mut Judge<'_>, seed: u64, calls: u64) -> Result<(), Difference> {
-    let (tall, large) = (calls / 50, calls / 500);
+    let (tall, large) = (calls / 15, calls / 300);
     let mut progress = Progress::new("check and find", calls + tall + large);
     for (series, calls, case) in [
         ("check small", calls, small as fn(&mut Random) -> Case),
@@ -37,8 +37,8 @@ fn small(random: &mut Random) -> Case {
 
 /// A table about 64 rows long that may go down to level 64 and more.
 fn tall_case(random: &mut Random) -> Case {
-    let rows = random.within(60, 70);
-    let deepest = random.within(60, 66);
+    let rows = random.within(62, 80);
+    let deepest = random.pick(&[62, 63, 63, 63, 63, 64]);
     let mut table = sound(random, rows, deepest);
     add_spare_rows(random, &mut table, 3);
     maybe_spoiled(random, table, rows)
@@ -48,7 +48,7 @@ fn tall_case(random: &mut Random) -> Case {
 fn large_case(random: &mut Random) -> Case {
     let rows = match random.below(4) {
         0 => 4_096,
-        1 => random.pick(&[4_095, 4_097]),
+        1 => random.pick(&[4_095, 4_097, 4_097]),
         _ => random.within(13, 4_096),
     };
     let mut table = sound(random, rows, 63);

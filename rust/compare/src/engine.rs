@@ -1,10 +1,14 @@
 //! The programs that answer calls.
 
 use crate::case::{Answer, Case};
+use crate::options::Part;
 
 /// A program that answers a call and changes what is lent to it.
 pub trait Engine {
     fn name(&self) -> &'static str;
+
+    /// Whether it has the functions that a part of the run calls.
+    fn has(&self, part: Part) -> bool;
 
     /// The answer; the columns of the case are left as the program leaves them.
     fn answer(&self, case: &mut Case) -> Answer;
@@ -24,16 +28,30 @@ macro_rules! same_numbers {
     }};
 }
 
-/// A table of another package, lent from the columns of a case.
+/// A table of another package, lent to be read.
 macro_rules! lend {
-    ($table:ident, $case:expr) => {
+    ($table:ident, $columns:expr, $count:expr) => {
         $table {
-            key: &$case.table.key,
-            size: &$case.table.size,
-            level: &$case.table.level,
-            kind: &$case.table.kind,
-            name: &$case.table.name,
-            count: $case.count,
+            key: &$columns.key,
+            size: &$columns.size,
+            level: &$columns.level,
+            kind: &$columns.kind,
+            name: &$columns.name,
+            count: $count,
+        }
+    };
+}
+
+/// A table of another package, lent to be changed.
+macro_rules! lend_mut {
+    ($table:ident, $columns:expr, $count:expr) => {
+        $table {
+            key: &mut $columns.key,
+            size: &mut $columns.size,
+            level: &mut $columns.level,
+            kind: &mut $columns.kind,
+            name: &mut $columns.name,
+            count: $count,
         }
     };
 }

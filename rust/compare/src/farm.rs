@@ -1,8 +1,12 @@
 //! The cases that the rules state for the small farm, with the numbers that they state.
 
+mod edits;
+mod steps;
+
 use crate::case::{Answer, Call, Case, Columns};
 use crate::judge::{Difference, Judge};
-use crate::tables::sizes;
+use crate::options::Part;
+use crate::tables::chain;
 
 /// The small farm.
 pub fn farm() -> Columns {
@@ -15,9 +19,16 @@ pub fn farm() -> Columns {
     }
 }
 
-/// Poses every stated case.
+/// Poses every stated case that the engine has the functions for.
 pub fn run(judge: &mut Judge<'_>) -> Result<(), Difference> {
-    checks(judge)
+    checks(judge)?;
+    if judge.engine.has(Part::Step) {
+        steps::run(judge)?;
+    }
+    if judge.engine.has(Part::Edit) {
+        edits::run(judge)?;
+    }
+    Ok(())
 }
 
 /// The farm is sound, its keys are found, and level 63 is accepted, 64 refused.
@@ -43,16 +54,4 @@ fn checks(judge: &mut Judge<'_>) -> Result<(), Difference> {
     let mut broken = farm();
     broken.level[8] = 1;
     unchanged("an earlier size", broken, 10, Call::Check, Answer::refused(2, 6))
-}
-
-/// A chain of so many elements, each the child of the one before.
-fn chain(rows: usize) -> Columns {
-    let level: Vec<usize> = (0..rows).collect();
-    Columns {
-        key: (1..=rows).collect(),
-        size: sizes(&level),
-        level,
-        kind: vec![1; rows],
-        name: vec![1; rows],
-    }
 }

@@ -2,6 +2,7 @@
 
 use crate::case::{Answer, Case};
 use crate::engine::{Engine, Second};
+use crate::options::Part;
 use crate::tally::Tally;
 use std::panic::{catch_unwind, AssertUnwindSafe};
 
@@ -10,13 +11,13 @@ pub struct Difference(pub String);
 
 /// Poses calls to an engine and to the second program, and counts them.
 pub struct Judge<'a> {
-    engine: &'a dyn Engine,
+    pub engine: &'a dyn Engine,
     pub tally: Tally,
 }
 
 impl<'a> Judge<'a> {
-    pub fn new(engine: &'a dyn Engine) -> Judge<'a> {
-        Judge { engine, tally: Tally::default() }
+    pub fn new(engine: &'a dyn Engine, part: Part) -> Judge<'a> {
+        Judge { engine, tally: Tally::new(part) }
     }
 
     /// Both must give the same answer and leave the same in every place of every lent column.
@@ -35,7 +36,7 @@ impl<'a> Judge<'a> {
         if by_engine != by_second {
             return Err(self.tell(&case, &first_other_place(&by_engine, &by_second)));
         }
-        self.tally.add(case.entry(), answer.refusal);
+        self.tally.add(&case, answer);
         Ok((answer, by_engine))
     }
 

@@ -7,13 +7,17 @@
 
 mod case;
 mod checks;
+mod commute;
 mod damage;
+mod edits;
 mod engine;
 mod farm;
 mod judge;
+mod notes;
 mod options;
 mod progress;
 mod random;
+mod steps;
 mod tables;
 mod tally;
 
@@ -24,25 +28,19 @@ use std::process::ExitCode;
 use std::time::Instant;
 use tally::Tally;
 
-/// A part of the run: its calls in the default run, and the refusals that must come up in it.
-struct Series {
-    part: Part,
-    name: &'static str,
-    calls: u64,
-    refusals: &'static [usize],
-    run: fn(&mut Judge<'_>, u64, u64) -> Result<(), Difference>,
-}
-
-const SERIES: &[Series] = &[Series {
-    part: Part::Check,
-    name: "check and find",
-    calls: checks::CALLS,
-    refusals: &[1, 2, 9],
-    run: checks::run,
-}];
+/// The random parts of a run: how many items the default run has, and how many calls an item.
+const PARTS: [(Part, u64, u64); 4] = [
+    (Part::Check, checks::CALLS, 1),
+    (Part::Step, steps::CALLS, 1),
+    (Part::Edit, edits::CALLS, 1),
+    (Part::Commute, commute::PAIRS, 8),
+];
 
 fn main() -> ExitCode {
-    let outcome = Options::read(std::env::args().skip(1)).and_then(|options| compare(&options));
+    let outcome = Options::read(std::env::args().skip(1)).and_then(|options| {
+        let engine = engine_named(&options.engine)?;
+        compare(engine.as_ref(), &options)
+    });
     match outcome {
         Ok(()) => ExitCode::SUCCESS,
         Err(told) => {
@@ -52,25 +50,31 @@ fn main() -> ExitCode {
     }
 }
 
-fn compare(options: &Options) -> Result<(), String> {
-    let engine = engine_named(&options.engine)?;
+fn engine_named(name: &str) -> Result<Box<dyn Engine>, String> {
+    match name {
+        #[cfg(feature = "library")]
+        "library" => Ok(Box::new(engine::Library)),
+        "plain" => Ok(Box::new(engine::Plain)),
+        _ => Err(format!("there is no engine '{name}' here")),
+    }
+}
+
+fn compare(engine: &dyn Engine, options: &Options) -> Result<(), String> {
     let started = Instant::now();
     println!("{} against the second program, seed {}", engine.name(), options.seed);
-    let mut judge = Judge::new(engine.as_ref());
-    farm::run(&mut judge).map_err(|difference| difference.0)?;
-    println!("the stated cases hold ({} calls)", judge.tally.calls());
-    let mut all = judge.tally;
-    let chosen = SERIES.iter().filter(|series| options.only.is_none_or(|only| only == series.part));
-    let chosen: Vec<&Series> = chosen.collect();
-    let planned: u64 = chosen.iter().map(|series| series.calls).sum();
-    for series in chosen {
-        let calls = match options.calls {
-            None => series.calls,
-            Some(calls) => (calls * series.calls).div_ceil(planned),
-        };
-        let tally = run_series(series, engine.as_ref(), options.seed, calls)?;
+    let mut all = run_part(Part::Farm, engine, options.seed, 0)?;
+    println!("the stated cases hold ({} calls)", all.calls());
+    let parts: Vec<_> =
+        PARTS.into_iter().filter(|&(part, ..)| options.chooses(part, engine)).collect();
+    let planned: u64 = parts.iter().map(|(_, items, calls)| items * calls).sum();
+    for (part, default, _) in parts {
+        if !engine.has(part) {
+            return Err("the library here doesn't have this part".to_string());
+        }
+        let items = options.calls.map_or(default, |calls| (calls * default).div_ceil(planned));
+        let tally = run_part(part, engine, options.seed, items)?;
         if options.calls.is_none() {
-            tally.demand(series.name, series.calls, series.refusals)?;
+            tally.demand()?;
         }
         all.merge(&tally);
     }
@@ -80,24 +84,33 @@ fn compare(options: &Options) -> Result<(), String> {
     Ok(())
 }
 
-fn run_series(
-    series: &Series,
-    engine: &dyn Engine,
-    seed: u64,
-    calls: u64,
-) -> Result<Tally, String> {
+fn run_part(part: Part, engine: &dyn Engine, seed: u64, items: u64) -> Result<Tally, String> {
     let started = Instant::now();
-    let mut judge = Judge::new(engine);
-    (series.run)(&mut judge, seed, calls).map_err(|difference| difference.0)?;
-    println!("{}: done in {:.1} s", series.name, started.elapsed().as_secs_f64());
+    let mut judge = Judge::new(engine, part);
+    let outcome = match part {
+        Part::Farm => farm::run(&mut judge),
+        Part::Check => checks::run(&mut judge, seed, items),
+        Part::Step => steps::run(&mut judge, seed, items),
+        Part::Edit => edits::run(&mut judge, seed, items),
+        Part::Commute => commute::run(&mut judge, seed, items),
+    };
+    outcome.map_err(|Difference(told)| told)?;
+    judge.tally.print_notes();
+    if part != Part::Farm {
+        println!("{} calls in {:.1} s", judge.tally.calls(), started.elapsed().as_secs_f64());
+    }
     Ok(judge.tally)
 }
 
-fn engine_named(name: &str) -> Result<Box<dyn Engine>, String> {
-    match name {
-        #[cfg(feature = "library")]
-        "library" => Ok(Box::new(engine::Library)),
-        "plain" => Ok(Box::new(engine::Plain)),
-        _ => Err(format!("there is no engine '{name}' here")),
+#[cfg(test)]
+mod tests {
+    use super::{compare, engine::Plain, Options};
+
+    /// Plain Rust can be compared without the library: the generators and the judge at work.
+    #[test]
+    fn plain_rust_agrees_with_the_second_program() {
+        let words = ["--engine", "plain", "--seed", "5", "--calls", "4000"].map(String::from);
+        let options = Options::read(words.into_iter()).unwrap();
+        compare(&Plain, &options).unwrap();
     }
 }

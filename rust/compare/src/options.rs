@@ -1,9 +1,18 @@
 //! What the command line asks for.
 
+use crate::engine::Engine;
+
 /// The parts of a run.
 #[derive(Clone, Copy, PartialEq, Eq)]
 pub enum Part {
+    /// The stated cases of the small farm.
+    Farm,
+    /// Check and find, which are posed together.
     Check,
+    Step,
+    Edit,
+    /// Two edits in both orders.
+    Commute,
 }
 
 /// The options of a run.
@@ -12,12 +21,11 @@ pub struct Options {
     pub seed: u64,
     /// About how many calls to make in all; the default run makes as many as the rules ask for.
     pub calls: Option<u64>,
-    /// `check` and `find` are posed together.
     pub only: Option<Part>,
 }
 
 const USAGE: &str = "usage: compare [--engine library|plain] [--seed N] [--calls N] \
-                     [--only check|find]";
+                     [--only check|find|step|edit|commute]";
 
 impl Options {
     /// Reads the words of the command line.
@@ -38,9 +46,22 @@ impl Options {
     }
 }
 
+impl Options {
+    /// Whether a part is asked for; without a choice, every part that the engine has.
+    pub fn chooses(&self, part: Part, engine: &dyn Engine) -> bool {
+        match self.only {
+            Some(only) => only == part,
+            None => engine.has(part),
+        }
+    }
+}
+
 fn part(word: &str) -> Result<Part, String> {
     match word {
         "check" | "find" => Ok(Part::Check),
+        "step" => Ok(Part::Step),
+        "edit" => Ok(Part::Edit),
+        "commute" => Ok(Part::Commute),
         _ => Err(USAGE.to_string()),
     }
 }

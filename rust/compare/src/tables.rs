@@ -109,24 +109,49 @@ pub fn some_key(random: &mut Random, table: &Columns, count: usize) -> usize {
     }
 }
 
-/// Lengthens each column by up to so many spare rows of its own, filled with garbage.
+/// Lengthens the columns by up to so many spare rows, filled with garbage: none of them, all by
+/// the same number, or each by its own.
 pub fn add_spare_rows(random: &mut Random, table: &mut Columns, most: usize) {
+    let same = match random.below(4) {
+        0 => Some(0),
+        1 => Some(random.within(0, most)),
+        _ => None,
+    };
     for column in table.each_mut() {
-        let spare = random.within(0, most);
+        let spare = same.unwrap_or_else(|| random.within(0, most));
         lengthen(random, column, spare);
     }
 }
 
-/// Lengthens a column by garbage.
+/// Lengthens a column by garbage: what it holds already, the least and largest numbers, any.
 pub fn lengthen(random: &mut Random, column: &mut Vec<usize>, by: usize) {
     for _ in 0..by {
-        let garbage = match random.below(5) {
+        let rubbish = match random.below(5) {
             0 => 0,
             1 => usize::MAX,
             2 => random.within(1, 5),
             3 if !column.is_empty() => column[random.below(column.len())],
             _ => random.number(),
         };
-        column.push(garbage);
+        column.push(rubbish);
+    }
+}
+
+/// A column of nothing but garbage.
+pub fn garbage(random: &mut Random, length: usize) -> Vec<usize> {
+    let mut column = Vec::with_capacity(length);
+    lengthen(random, &mut column, length);
+    column
+}
+
+/// A chain of so many elements, each the child of the one before.
+pub fn chain(rows: usize) -> Columns {
+    let level: Vec<usize> = (0..rows).collect();
+    Columns {
+        key: (1..=rows).collect(),
+        size: sizes(&level),
+        level,
+        kind: vec![1; rows],
+        name: vec![1; rows],
     }
 }

@@ -1,27 +1,55 @@
 //! How many calls were posed, and how they were answered.
 
-use crate::case::Entry;
+use crate::case::{Answer, Call, Case, Entry};
+use crate::notes;
+use crate::options::Part;
 
 /// Refusals 1 to 16; number 0 is an accepted call.
 const NUMBERS: usize = 17;
+const AXES: usize = 11;
+const TESTS: usize = 8;
 
-/// For each function of the library, how often each refusal was given.
-#[derive(Clone, Default)]
+/// How often a refusal must come up in each part that can give it.
+const LEAST_REFUSALS: u64 = 1_000;
+/// How often each axis with each test must be accepted.
+const LEAST_STEPS: u64 = 1_000;
+
+/// What came up so far in one part of the run.
+#[derive(Clone)]
 pub struct Tally {
+    part: Part,
+    /// For each function of the library, how often each refusal was given.
     answers: [[u64; NUMBERS]; Entry::ALL.len()],
+    /// For each axis and test, how many steps were accepted.
+    steps: [[u64; TESTS]; AXES],
+    /// How often each note held.
+    notes: [u64; notes::COUNT],
 }
 
 impl Tally {
-    pub fn add(&mut self, entry: Entry, refusal: usize) {
-        self.answers[entry as usize][refusal] += 1;
+    pub fn new(part: Part) -> Tally {
+        Tally {
+            part,
+            answers: Default::default(),
+            steps: Default::default(),
+            notes: [0; notes::COUNT],
+        }
     }
 
-    pub fn merge(&mut self, other: &Tally) {
-        for (own, others) in self.answers.iter_mut().zip(&other.answers) {
-            for (own, other) in own.iter_mut().zip(others) {
-                *own += other;
-            }
+    pub fn add(&mut self, case: &Case, answer: Answer) {
+        self.answers[case.entry() as usize][answer.refusal] += 1;
+        if let (Call::Step(step), 0) = (&case.call, answer.refusal) {
+            self.steps[step.axis - 1][step.test] += 1;
         }
+        for (times, note) in self.notes.iter_mut().zip(notes::all()) {
+            *times += u64::from(note.part == self.part && (note.holds)(case, answer));
+        }
+    }
+
+    /// Takes over the answers of another part.
+    pub fn merge(&mut self, other: &Tally) {
+        let own = self.answers.iter_mut().flatten();
+        own.zip(other.answers.iter().flatten()).for_each(|(own, other)| *own += other);
     }
 
     pub fn calls(&self) -> u64 {
@@ -29,48 +57,79 @@ impl Tally {
     }
 
     /// How often the refusal was given, by whatever function.
-    pub fn refusals(&self, number: usize) -> u64 {
+    fn refusals(&self, number: usize) -> u64 {
         self.answers.iter().map(|answers| answers[number]).sum()
     }
 
-    /// Says which of the numbers came up less often than they must.
-    pub fn demand(&self, series: &str, calls: u64, refusals: &[usize]) -> Result<(), String> {
-        if self.calls() < calls {
-            return Err(format!("{series}: only {} of {calls} calls were made", self.calls()));
-        }
+    /// Says what came up less often than it must.
+    pub fn demand(&self) -> Result<(), String> {
+        let refusals: &[usize] = match self.part {
+            Part::Check => &[1, 2, 9],
+            Part::Step => &[1, 2, 3, 4, 5, 6, 7, 8],
+            Part::Edit => &[1, 2, 9, 10, 11, 12, 13, 14, 15, 16],
+            Part::Farm | Part::Commute => &[],
+        };
         for &number in refusals {
-            let times = self.refusals(number);
-            if times < 1_000 {
-                return Err(format!("{series}: refusal {number} came up only {times} times"));
+            at_least(&format!("refusal {number}"), self.refusals(number), LEAST_REFUSALS)?;
+        }
+        for (times, note) in self.notes.iter().zip(notes::all()) {
+            if note.part == self.part {
+                at_least(note.what, *times, note.least)?;
+            }
+        }
+        if self.part == Part::Step {
+            self.demand_each_axis_and_test()?;
+        }
+        Ok(())
+    }
+
+    fn demand_each_axis_and_test(&self) -> Result<(), String> {
+        for (axis, tests) in self.steps.iter().enumerate() {
+            for (test, times) in tests.iter().enumerate() {
+                at_least(&format!("axis {} with test {test}", axis + 1), *times, LEAST_STEPS)?;
             }
         }
         Ok(())
+    }
+
+    /// What the part must have posed, and how often it did.
+    pub fn print_notes(&self) {
+        for (times, note) in self.notes.iter().zip(notes::all()) {
+            if note.part == self.part {
+                println!("{times:>12}  {}", note.what);
+            }
+        }
     }
 
     /// The table of all calls, a column for each function.
     pub fn print(&self) {
         print!("{:>12}", "");
         for entry in Entry::ALL {
-            print!("{:>12}", entry.name());
+            print!("{:>11}", entry.name());
         }
         println!();
-        for number in 0..NUMBERS {
-            if self.refusals(number) == 0 {
-                continue;
-            }
+        for number in (0..NUMBERS).filter(|&number| self.refusals(number) > 0) {
             match number {
                 0 => print!("{:>12}", "accepted"),
                 _ => print!("{:>12}", format!("refusal {number}")),
             }
             for answers in &self.answers {
-                print!("{:>12}", answers[number]);
+                print!("{:>11}", answers[number]);
             }
             println!();
         }
         print!("{:>12}", "calls");
         for answers in &self.answers {
-            print!("{:>12}", answers.iter().sum::<u64>());
+            print!("{:>11}", answers.iter().sum::<u64>());
         }
         println!();
     }
+}
+
+/// Says so if something came up less often than it must.
+pub fn at_least(what: &str, times: u64, least: u64) -> Result<(), String> {
+    if times < least {
+        return Err(format!("{what}: came up {times} times, and must at least {least} times"));
+    }
+    Ok(())
 }

@@ -7,11 +7,23 @@
 #![forbid(unsafe_code)]
 
 mod answer;
+mod axes;
 mod check;
+mod edit;
+mod filter;
 mod keys;
+mod lanes;
+mod pairs;
+mod row_set;
+mod sink;
+mod step;
 mod table;
 
 pub use answer::Answer;
+pub use edit::{delete, insert, rename, TableMut};
+pub use pairs::Pairs;
+pub use sink::Results;
+pub use step::{step, Question};
 pub use table::Table;
 
 use keys::{by_rows, Keys};

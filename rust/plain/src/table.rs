@@ -45,6 +45,14 @@ impl<'a> Table<'a> {
     }
 }
 
+impl Table<'_> {
+    /// The length of the shortest column.
+    pub(crate) fn shortest(&self) -> usize {
+        let others = [self.size, self.level, self.kind, self.name];
+        others.iter().fold(self.key.len(), |least, column| least.min(column.len()))
+    }
+}
+
 impl Rows<'_> {
     pub fn count(&self) -> usize {
         self.key.len()

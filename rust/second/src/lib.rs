@@ -8,10 +8,16 @@
 #![forbid(unsafe_code)]
 
 mod answer;
+mod edit;
+mod links;
 mod sound;
+mod step;
 mod table;
+mod tree;
 
 pub use answer::Answer;
+pub use edit::{delete, insert, rename, TableMut};
+pub use step::{step, Pairs, Question, Results};
 pub use table::Table;
 
 use answer::Refused;

@@ -1,0 +1,287 @@
+//! Two edits in both orders: within the conditions of the rules both orders are accepted and
+//! give the same rows in use.
+
+use crate::case::{Answer, Call, Case, Columns, Insert};
+use crate::edits::fresh_piece;
+use crate::judge::{Difference, Judge};
+use crate::progress::Progress;
+use crate::random::Random;
+use crate::tables::{lengthen, sound};
+use crate::tally::at_least;
+use std::fmt;
+
+/// How many pairs within the conditions the default run makes.
+pub const PAIRS: u64 = 150_000;
+/// How many of them must be of each of the nine pairs of edits.
+const LEAST_OF_EACH: u64 = 2_000;
+
+/// Why a pair of accepted edits lies outside the conditions.
+#[derive(Clone, Copy)]
+enum Outside {
+    SameRow,
+    OneAboveOther,
+    KeyInBoth,
+    NoRoomForBoth,
+}
+
+/// What became of the pairs outside the conditions.
+#[derive(Clone, Copy, Default)]
+struct Fate {
+    refused: u64,
+    differed: u64,
+    same: u64,
+}
+
+/// What came up.
+#[derive(Default)]
+struct Pairs {
+    within: [[u64; 3]; 3],
+    outside: [Fate; 4],
+}
+
+/// A table as an accepted edit leaves it.
+struct Left {
+    table: Columns,
+    count: usize,
+}
+
+/// Poses pairs until there are so many within the conditions.
+pub fn run(judge: &mut Judge<'_>, seed: u64, pairs: u64) -> Result<(), Difference> {
+    let mut seen = Pairs::default();
+    let mut progress = Progress::new("pairs of edits", pairs);
+    let mut within = 0;
+    for attempt in 0.. {
+        let random = &mut Random::for_call(seed, "commute", attempt);
+        let rows = match attempt % 2_000 {
+            999 => random.pick(&[2_000, 4_090]),
+            _ => random.within(2, 12),
+        };
+        let pair = Pair::any(random, rows);
+        if pair.pose(judge, &mut seen)? {
+            within += 1;
+            progress.advance();
+        }
+        if within == pairs {
+            break;
+        }
+    }
+    print!("{seen}");
+    if pairs >= PAIRS {
+        seen.demand().map_err(Difference)?;
+    }
+    Ok(())
+}
+
+/// Two edits of one table.
+struct Pair {
+    table: Columns,
+    count: usize,
+    edits: [Call; 2],
+}
+
+impl Pair {
+    /// Two edits that are mostly within the conditions.
+    fn any(random: &mut Random, rows: usize) -> Pair {
+        let table = sound(random, rows, 12);
+        let mut pair = Pair { table, count: rows, edits: [Call::Check, Call::Check] };
+        let named = pair.two_rows(random);
+        pair.edits = named.map(|row| fitting_edit(random, &pair.table, row));
+        if random.chance(10) {
+            share_a_key(&mut pair.edits);
+        }
+        // Just enough room for the one or the other, or more of it.
+        let room = random.pick(&[0, 1, 3, 5, 10, 10, 10, 10]);
+        for column in pair.table.each_mut() {
+            let spare = room + random.within(0, 2);
+            lengthen(random, column, spare);
+        }
+        pair
+    }
+
+    /// Two rows, mostly apart from each other.
+    fn two_rows(&self, random: &mut Random) -> [usize; 2] {
+        let mut rows = [random.below(self.count), random.below(self.count)];
+        for _ in 0..random.pick(&[0, 10, 10, 10]) {
+            let [one, other] = rows;
+            if one != other && !self.is_ancestor(one, other) && !self.is_ancestor(other, one) {
+                break;
+            }
+            rows = [random.below(self.count), random.below(self.count)];
+        }
+        rows
+    }
+
+    /// Poses each edit by itself and, if both are accepted, both orders. Says whether the pair
+    /// lies within the conditions.
+    fn pose(&self, judge: &mut Judge<'_>, seen: &mut Pairs) -> Result<bool, Difference> {
+        let start = Left { table: self.table.clone(), count: self.count };
+        let [one, other] = &self.edits;
+        let (Some(after_one), Some(after_other)) =
+            (edited(judge, &start, one)?, edited(judge, &start, other)?)
+        else {
+            return Ok(false);
+        };
+        let orders = (edited(judge, &after_one, other)?, edited(judge, &after_other, one)?);
+        let same = match &orders {
+            (Some(left), Some(right)) => Some(same_rows_in_use(left, right)),
+            _ => None,
+        };
+        match (self.outside(), same) {
+            (None, Some(true)) => {
+                seen.within[kind_of(one)][kind_of(other)] += 1;
+                Ok(true)
+            }
+            (None, Some(false)) => Err(self.tell("both orders are accepted and differ")),
+            (None, None) => Err(self.tell("an order is refused")),
+            (Some(outside), same) => {
+                seen.outside[outside as usize].add(same);
+                Ok(false)
+            }
+        }
+    }
+
+    /// The first condition that the two edits, each accepted by itself, don't meet.
+    fn outside(&self) -> Option<Outside> {
+        let rows = self.edits.each_ref().map(|edit| self.named_row(edit));
+        let pieces = self.edits.each_ref().map(piece_keys);
+        let added = pieces[0].len() + pieces[1].len();
+        if rows[0] == rows[1] {
+            Some(Outside::SameRow)
+        } else if self.is_ancestor(rows[0], rows[1]) || self.is_ancestor(rows[1], rows[0]) {
+            Some(Outside::OneAboveOther)
+        } else if pieces[0].iter().any(|key| pieces[1].contains(key)) {
+            Some(Outside::KeyInBoth)
+        } else if added > 0 && self.count + added > self.table.shortest().min(4_096) {
+            Some(Outside::NoRoomForBoth)
+        } else {
+            None
+        }
+    }
+
+    fn named_row(&self, edit: &Call) -> usize {
+        let wanted = match edit {
+            Call::Insert(insert) => insert.parent,
+            Call::Delete { wanted } | Call::Rename { wanted, .. } => *wanted,
+            _ => unreachable!("only edits are paired"),
+        };
+        let keys = &self.table.key[..self.count];
+        keys.iter().position(|&key| key == wanted).expect("the edit was accepted")
+    }
+
+    /// By parents: the nearest earlier row whose level is one less.
+    fn is_ancestor(&self, upper: usize, mut row: usize) -> bool {
+        let level = &self.table.level;
+        while let Some(parent) = (0..row).rev().find(|&up| level[up] + 1 == level[row]) {
+            if parent == upper {
+                return true;
+            }
+            row = parent;
+        }
+        false
+    }
+
+    fn tell(&self, what: &str) -> Difference {
+        let [one, other] = self.edits.each_ref().map(|edit| Case {
+            table: self.table.clone(),
+            count: self.count,
+            call: edit.clone(),
+        });
+        Difference(format!("two edits: {what}\nthe first\n{one}\nthe second\n{other}"))
+    }
+}
+
+/// The table after the edit, if it is accepted.
+fn edited(judge: &mut Judge<'_>, from: &Left, edit: &Call) -> Result<Option<Left>, Difference> {
+    let case = Case { table: from.table.clone(), count: from.count, call: edit.clone() };
+    let (Answer { refusal, first, .. }, case) = judge.pose(case)?;
+    Ok((refusal == 0).then_some(Left { table: case.table, count: first }))
+}
+
+fn same_rows_in_use(left: &Left, right: &Left) -> bool {
+    let mut columns = left.table.each().into_iter().zip(right.table.each());
+    left.count == right.count
+        && columns.all(|(left_column, right_column)| {
+            left_column[..left.count] == right_column[..left.count]
+        })
+}
+
+fn piece_keys(edit: &Call) -> &[usize] {
+    match edit {
+        Call::Insert(insert) => &insert.piece.key[..insert.piece_count],
+        _ => &[],
+    }
+}
+
+/// An edit that the row's kind allows.
+fn fitting_edit(random: &mut Random, table: &Columns, row: usize) -> Call {
+    let key = table.key[row];
+    let delete = Call::Delete { wanted: key };
+    let rename = Call::Rename { wanted: key, new_name: random.within(1, 5) };
+    let piece_count = random.within(1, 5);
+    let piece = fresh_piece(random, piece_count);
+    let insert = Call::Insert(Insert { parent: key, piece, piece_count });
+    match (table.kind[row], random.below(4)) {
+        (0, _) | (1, 0 | 1) => insert,
+        (1 | 4, 2) => rename,
+        _ => delete,
+    }
+}
+
+/// Gives two insertions a key in common.
+fn share_a_key(edits: &mut [Call; 2]) {
+    if let [Call::Insert(one), Call::Insert(other)] = edits {
+        if let (Some(key), Some(place)) = (one.piece.key.first(), other.piece.key.last_mut()) {
+            *place = *key;
+        }
+    }
+}
+
+/// Insertion, deletion, rename.
+fn kind_of(edit: &Call) -> usize {
+    match edit {
+        Call::Insert(_) => 0,
+        Call::Delete { .. } => 1,
+        _ => 2,
+    }
+}
+
+impl Fate {
+    fn add(&mut self, same: Option<bool>) {
+        match same {
+            None => self.refused += 1,
+            Some(false) => self.differed += 1,
+            Some(true) => self.same += 1,
+        }
+    }
+}
+
+impl Pairs {
+    /// Says which of the nine pairs of edits came up less often than it must.
+    fn demand(&self) -> Result<(), String> {
+        for times in self.within.iter().flatten() {
+            at_least("a pair of edits", *times, LEAST_OF_EACH)?;
+        }
+        for fate in &self.outside {
+            let all = fate.refused + fate.differed + fate.same;
+            at_least("a pair outside a condition", all, LEAST_OF_EACH / 10)?;
+        }
+        Ok(())
+    }
+}
+
+impl fmt::Display for Pairs {
+    fn fmt(&self, out: &mut fmt::Formatter<'_>) -> fmt::Result {
+        writeln!(out, "pairs of edits within the conditions, the same in both orders:")?;
+        writeln!(out, "{:>12}{:>11}{:>11}{:>11}", "first", "insert", "delete", "rename")?;
+        for (name, times) in ["insert", "delete", "rename"].iter().zip(&self.within) {
+            writeln!(out, "{name:>12}{:>11}{:>11}{:>11}", times[0], times[1], times[2])?;
+        }
+        writeln!(out, "pairs outside them, each edit accepted by itself:")?;
+        writeln!(out, "{:>22}{:>11}{:>11}{:>11}", "", "refused", "differed", "the same")?;
+        let names = ["the same row", "one above the other", "a key in both", "no room for both"];
+        for (name, fate) in names.iter().zip(&self.outside) {
+            writeln!(out, "{name:>22}{:>11}{:>11}{:>11}", fate.refused, fate.differed, fate.same)?;
+        }
+        Ok(())
+    }
+}

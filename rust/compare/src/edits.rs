@@ -1,0 +1,140 @@
+//! Random edits.
+
+use crate::case::{Call, Case, Columns, Insert};
+use crate::damage::spoil;
+use crate::judge::{Difference, Judge};
+use crate::progress::Progress;
+use crate::random::{scatter, Random};
+use crate::tables::{add_spare_rows, chain, lengthen, some_key, sound};
+
+/// How many edits of small tables the default run makes.
+pub const CALLS: u64 = 400_000;
+
+/// Small tables, then tall ones about the deepest level, then large ones about the most rows.
+pub fn run(judge: &mut Judge<'_>, seed: u64, calls: u64) -> Result<(), Difference> {
+    let (tall, large) = (calls / 20, calls / 500);
+    let mut progress = Progress::new("edit", calls + tall + large);
+    for (series, calls, case) in [
+        ("edit small", calls, small as fn(&mut Random) -> Case),
+        ("edit tall", tall, tall_case),
+        ("edit large", large, large_case),
+    ] {
+        for call in 0..calls {
+            judge.pose(case(&mut Random::for_call(seed, series, call)))?;
+            progress.advance();
+        }
+    }
+    Ok(())
+}
+
+fn small(random: &mut Random) -> Case {
+    let rows = random.within(1, 12);
+    let mut table = sound(random, rows, 12);
+    add_spare_rows(random, &mut table, 12);
+    let call = any_edit(random, &table, rows, 6);
+    maybe_spoiled(random, table, rows, call)
+}
+
+/// A table and a piece that come near the deepest level together.
+fn tall_case(random: &mut Random) -> Case {
+    let rows = random.within(30, 70);
+    let mut table = sound(random, rows, 63);
+    add_spare_rows(random, &mut table, 70);
+    let parent = random.below(rows);
+    let depth = random.within(60, 65).saturating_sub(table.level[parent] + 1).min(63);
+    let call = if random.chance(70) {
+        let mut piece = chain(depth + 1);
+        give_fresh_keys(random, &mut piece);
+        Call::Insert(Insert { parent: table.key[parent], piece, piece_count: depth + 1 })
+    } else {
+        any_edit(random, &table, rows, 64)
+    };
+    maybe_spoiled(random, table, rows, call)
+}
+
+/// A table and a piece that come near the most rows together, with or without the columns for
+/// it.
+fn large_case(random: &mut Random) -> Case {
+    let piece_rows = random.pick(&[1, 2, 100, 500]);
+    let rows = match random.below(6) {
+        0 | 1 => 4_096 - piece_rows,
+        2 | 3 => 4_097 - piece_rows,
+        4 => 4_096,
+        _ => random.within(13, 4_096),
+    };
+    let mut table = sound(random, rows, 63);
+    let length = random.pick(&[4_096, 4_100, rows, rows + piece_rows - 1, 4_700]).max(rows);
+    for column in table.each_mut() {
+        lengthen(random, column, length - rows);
+    }
+    if random.chance(30) {
+        add_spare_rows(random, &mut table, 3);
+    }
+    let call = if random.chance(70) {
+        // The root takes any piece.
+        table.kind[0] = 1;
+        table.name[0] = 1;
+        let parent = table.key[0];
+        let piece = fresh_piece(random, piece_rows);
+        Call::Insert(Insert { parent, piece, piece_count: piece_rows })
+    } else {
+        any_edit(random, &table, rows, 600)
+    };
+    Case { table, count: rows, call }
+}
+
+/// Nine of ten tables stay sound.
+fn maybe_spoiled(random: &mut Random, mut table: Columns, rows: usize, call: Call) -> Case {
+    let mut count = rows;
+    if random.chance(10) {
+        spoil(random, &mut table, &mut count);
+    }
+    Case { table, count, call }
+}
+
+/// Any edit, with a piece of up to so many rows.
+fn any_edit(random: &mut Random, table: &Columns, count: usize, most_piece: usize) -> Call {
+    let wanted = some_key(random, table, count);
+    match random.below(4) {
+        0 | 1 => Call::Insert(insertion(random, wanted, table, most_piece)),
+        2 => Call::Delete { wanted },
+        _ => Call::Rename { wanted, new_name: random.pick(&[0, 1, 2, 3, 4, 5, 6, usize::MAX]) },
+    }
+}
+
+fn insertion(random: &mut Random, parent: usize, table: &Columns, most_piece: usize) -> Insert {
+    let rows = random.within(1, most_piece);
+    let mut piece = fresh_piece(random, rows);
+    let mut piece_count = rows;
+    add_spare_rows(random, &mut piece, 2);
+    if random.chance(8) {
+        piece.kind[0] = 0;
+        piece.name[0] = 0;
+    }
+    if random.chance(8) {
+        spoil(random, &mut piece, &mut piece_count);
+    }
+    if random.chance(10) && !piece.key.is_empty() {
+        let row = random.below(piece.key.len());
+        piece.key[row] = table.key[random.below(table.key.len())];
+    }
+    Insert { parent, piece, piece_count }
+}
+
+/// A sound piece that starts with no document and whose keys no table here has.
+pub fn fresh_piece(random: &mut Random, rows: usize) -> Columns {
+    let mut piece = sound(random, rows, 63);
+    if piece.kind[0] == 0 {
+        piece.kind[0] = 1;
+        piece.name[0] = random.within(1, 4);
+    }
+    give_fresh_keys(random, &mut piece);
+    piece
+}
+
+fn give_fresh_keys(random: &mut Random, piece: &mut Columns) {
+    let start = random.number() as u64;
+    for (row, key) in piece.key.iter_mut().enumerate() {
+        *key = (scatter(start.wrapping_add(row as u64)) as usize).max(1);
+    }
+}

@@ -1,0 +1,141 @@
+//! What must come up in a run beside the refusals, so that a generator that drifts is noticed.
+
+use crate::case::{Answer, Call, Case, Step};
+use crate::options::Part;
+
+const MOST_ROWS: usize = 4_096;
+const MOST_PAIRS: usize = 4_096;
+
+/// Something that a part of the default run must pose at least so many times.
+pub struct Note {
+    pub part: Part,
+    pub what: &'static str,
+    pub least: u64,
+    pub holds: fn(&Case, Answer) -> bool,
+}
+
+/// All notes, in the order of the parts.
+pub fn all() -> impl Iterator<Item = &'static Note> {
+    CHECKS.iter().chain(&STEPS).chain(&EDITS)
+}
+
+/// How many notes there are.
+pub const COUNT: usize = CHECKS.len() + STEPS.len() + EDITS.len();
+
+const fn check(what: &'static str, least: u64, holds: fn(&Case, Answer) -> bool) -> Note {
+    Note { part: Part::Check, what, least, holds }
+}
+
+const fn step(what: &'static str, least: u64, holds: fn(&Case, Answer) -> bool) -> Note {
+    Note { part: Part::Step, what, least, holds }
+}
+
+const fn edit(what: &'static str, least: u64, holds: fn(&Case, Answer) -> bool) -> Note {
+    Note { part: Part::Edit, what, least, holds }
+}
+
+static CHECKS: [Note; 10] = [
+    check("count 0", 1_000, |case, _| case.count == 0),
+    check("a count above the shortest column", 1_000, |case, _| {
+        case.count <= MOST_ROWS && case.count > case.table.shortest()
+    }),
+    check("columns of differing length", 1_000, |case, _| {
+        case.table.each().iter().any(|column| column.len() > case.table.shortest())
+    }),
+    check("spare rows in every column, accepted", 1_000, |case, answer| {
+        answer.refusal == 0 && case.table.shortest() > case.count
+    }),
+    check("4,096 rows, accepted", 50, |case, answer| {
+        answer.refusal == 0 && case.count == MOST_ROWS
+    }),
+    check("4,097 rows that are all there", 50, |case, _| {
+        case.count == MOST_ROWS + 1 && case.table.shortest() > MOST_ROWS
+    }),
+    check("level 63, accepted", 500, |case, answer| {
+        answer.refusal == 0 && case.table.level[..case.count].contains(&63)
+    }),
+    check("level 64 in the least unsound row", 500, |case, answer| {
+        answer.refusal == 2 && case.table.level[answer.place] == 64
+    }),
+    check("the largest key, accepted", 1_000, |case, answer| {
+        answer.refusal == 0 && case.table.key[..case.count].contains(&usize::MAX)
+    }),
+    check("key 0 in the least unsound row", 1_000, |case, answer| {
+        answer.refusal == 2 && case.table.key[answer.place] == 0
+    }),
+];
+
+static STEPS: [Note; 11] = [
+    step("no pairs, accepted", 1_000, |case, answer| {
+        answer.refusal == 0 && step_of(case).row.is_empty()
+    }),
+    step("4,096 pairs, accepted", 50, |case, answer| {
+        answer.refusal == 0 && step_of(case).row.len() == MOST_PAIRS
+    }),
+    step("too many pairs in columns of equal length", 50, |case, answer| {
+        answer.refusal == 3 && step_of(case).row.len() == step_of(case).role.len()
+    }),
+    step("more than 1,000 roles, accepted", 50, |case, answer| {
+        answer.refusal == 0 && step_of(case).role.chunk_by(usize::eq).count() > 1_000
+    }),
+    step("equal pairs, accepted", 1_000, |case, answer| {
+        let pairs = |place: usize| (step_of(case).role[place], step_of(case).row[place]);
+        answer.refusal == 0 && (1..step_of(case).row.len()).any(|at| pairs(at) == pairs(at - 1))
+    }),
+    step("empty result columns, refused", 1_000, |case, answer| {
+        answer.refusal == 8 && room(case) == 0
+    }),
+    step("result columns too short by one", 1_000, |case, answer| {
+        answer.refusal == 8 && room(case) + 1 == answer.place
+    }),
+    step("result columns exactly filled", 1_000, |case, answer| {
+        answer.refusal == 0 && answer.first > 0 && answer.first == room(case)
+    }),
+    step("result columns with room to spare", 1_000, |case, answer| {
+        answer.refusal == 0 && answer.first > 0 && answer.first < room(case)
+    }),
+    step("result columns of unequal length", 1_000, |case, _| {
+        step_of(case).out_role.len() != step_of(case).out_row.len()
+    }),
+    step("more than 100,000 results", 30, |_, answer| answer.first.max(answer.place) > 100_000),
+];
+
+static EDITS: [Note; 6] = [
+    edit("4,096 rows exactly reached", 50, |case, answer| {
+        answer.first == MOST_ROWS && answer.moved > 0 && case.count < MOST_ROWS
+    }),
+    edit("4,096 rows passed by one", 50, |case, answer| {
+        answer.refusal == 14 && case.count + piece_rows(case) == MOST_ROWS + 1
+    }),
+    edit("no spare row in some column", 1_000, |case, answer| {
+        answer.refusal == 14 && case.table.shortest() == case.count
+    }),
+    edit("one row too little in some column", 1_000, |case, answer| {
+        answer.refusal == 14 && case.count + piece_rows(case) == case.table.shortest() + 1
+    }),
+    edit("insertion at the very end", 1_000, |case, answer| {
+        answer.moved > 0 && answer.second == case.count
+    }),
+    edit("deletion at the very end", 1_000, |case, answer| {
+        answer.moved < 0 && answer.second == case.count
+    }),
+];
+
+fn step_of(case: &Case) -> &Step {
+    match &case.call {
+        Call::Step(step) => step,
+        _ => unreachable!("this part poses only steps"),
+    }
+}
+
+/// How many results there is room for.
+fn room(case: &Case) -> usize {
+    step_of(case).out_role.len().min(step_of(case).out_row.len())
+}
+
+fn piece_rows(case: &Case) -> usize {
+    match &case.call {
+        Call::Insert(insert) => insert.piece_count,
+        _ => 0,
+    }
+}

@@ -1,0 +1,169 @@
+//! One location step for many roles at once.
+
+use crate::boundary;
+use crate::{Refusal, Table};
+
+/// The pairs of a step: each says that a role holds a row. They ascend by role, then row; a pair
+/// that comes twice counts once.
+#[derive(Clone, Copy, Debug, PartialEq, Eq)]
+pub struct Pairs<'a> {
+    /// The role of each pair.
+    pub role: &'a [usize],
+    /// The row of each pair.
+    pub row: &'a [usize],
+}
+
+/// The two columns that a step writes its results to, from place 0 on. They need not be equally
+/// long: the shorter one says how many results there is room for.
+#[derive(Debug, PartialEq, Eq)]
+pub struct Results<'a> {
+    /// The role of each result.
+    pub role: &'a mut [usize],
+    /// The row of each result.
+    pub row: &'a mut [usize],
+}
+
+/// What an accepted step answers.
+#[derive(Clone, Copy, Debug, PartialEq, Eq)]
+pub struct Stepped {
+    /// The number of results.
+    pub results: usize,
+    /// The number of distinct pairs that remain when redundant ones are dropped.
+    pub kept: usize,
+}
+
+/// Which way a step goes from a row. A code of another number can be posed to
+/// [`boundary::step`].
+#[derive(Clone, Copy, Debug, PartialEq, Eq, Hash)]
+pub enum Axis {
+    /// 1: the row itself.
+    Itself,
+    /// 2: the rows whose parent it is.
+    Child,
+    /// 3: the rows below it.
+    Descendant,
+    /// 4: the row itself and the rows below it.
+    DescendantOrSelf,
+    /// 5: its parent.
+    Parent,
+    /// 6: its parent, the parent of that one, and so on.
+    Ancestor,
+    /// 7: the row itself and its ancestors.
+    AncestorOrSelf,
+    /// 8: the rows after it that are not below it.
+    Following,
+    /// 9: the rows before it that are not its ancestors.
+    Preceding,
+    /// 10: the later rows with the same parent.
+    FollowingSibling,
+    /// 11: the earlier rows with the same parent.
+    PrecedingSibling,
+}
+
+impl Axis {
+    /// All axes, by ascending code.
+    pub const ALL: [Axis; 11] = [
+        Axis::Itself,
+        Axis::Child,
+        Axis::Descendant,
+        Axis::DescendantOrSelf,
+        Axis::Parent,
+        Axis::Ancestor,
+        Axis::AncestorOrSelf,
+        Axis::Following,
+        Axis::Preceding,
+        Axis::FollowingSibling,
+        Axis::PrecedingSibling,
+    ];
+
+    /// The axis code, 1 to 11.
+    pub fn code(self) -> usize {
+        self as usize + 1
+    }
+}
+
+/// Which rows on the axis are results. A code of another number, or a name that doesn't fit, can
+/// be posed to [`boundary::step`].
+#[derive(Clone, Copy, Debug, PartialEq, Eq, Hash)]
+pub enum Test {
+    /// 0: every row.
+    AnyNode,
+    /// 1: every element.
+    AnyElement,
+    /// 2: the elements of this name, which is not 0.
+    Element(usize),
+    /// 3: every text.
+    Text,
+    /// 4: every comment.
+    Comment,
+    /// 5: every processing instruction.
+    AnyInstruction,
+    /// 6: the processing instructions of this name, which is not 0.
+    Instruction(usize),
+    /// 7: the document.
+    Document,
+}
+
+impl Test {
+    /// The test code, 0 to 7.
+    pub fn code(self) -> usize {
+        match self {
+            Test::AnyNode => 0,
+            Test::AnyElement => 1,
+            Test::Element(_) => 2,
+            Test::Text => 3,
+            Test::Comment => 4,
+            Test::AnyInstruction => 5,
+            Test::Instruction(_) => 6,
+            Test::Document => 7,
+        }
+    }
+
+    /// The name that goes with the code; 0 where there is none.
+    pub fn name(self) -> usize {
+        match self {
+            Test::Element(name) | Test::Instruction(name) => name,
+            _ => 0,
+        }
+    }
+}
+
+impl Table<'_> {
+    /// Takes a step: for each role, the rows on the axis of one of its rows that pass the test.
+    /// Results ascend by role, then row; places beyond them stay as they are.
+    ///
+    /// ```
+    /// use reach::{farm, Axis, Pairs, Refusal, Results, Stepped, Test};
+    ///
+    /// // Role 5 holds the first turbine and one of its blades, role 7 the second turbine.
+    /// let pairs = Pairs { role: &[5, 5, 7], row: &[1, 2, 6] };
+    /// let (mut role, mut row) = ([0; 4], [0; 4]);
+    /// let results = Results { role: &mut role, row: &mut row };
+    ///
+    /// // Which setpoints (name 4) do they reach?
+    /// let stepped = farm::table().step(pairs, Axis::Descendant, Test::Element(4), results);
+    /// assert_eq!(stepped, Ok(Stepped { results: 3, kept: 2 }));
+    /// assert_eq!((role, row), ([5, 5, 7, 0], [3, 5, 8, 0]));
+    ///
+    /// // With too little room nothing is written, and the refusal says how much is needed.
+    /// let short = Results { role: &mut role[..2], row: &mut row[..2] };
+    /// let stepped = farm::table().step(pairs, Axis::Descendant, Test::Element(4), short);
+    /// assert_eq!(stepped, Err(Refusal::TooManyResults { results: 3 }));
+    /// ```
+    ///
+    /// # Errors
+    ///
+    /// [`Refusal::BadCount`] to [`Refusal::TooManyResults`], numbers 1 to 8; of number 7 only
+    /// the name 0 can occur here, and number 6 can't.
+    pub fn step(
+        self,
+        pairs: Pairs<'_>,
+        axis: Axis,
+        test: Test,
+        results: Results<'_>,
+    ) -> Result<Stepped, Refusal> {
+        boundary::step(self, pairs, axis.code(), test.code(), test.name(), results)
+            .accepted()
+            .map(|answer| Stepped { results: answer.first, kept: answer.second })
+    }
+}
