@@ -21,3 +21,6 @@ pub mod SiblingLaws
 pub mod LaterLaws
 pub mod EarlierLaws
 pub mod RoleAxisLaws
+pub mod RunLaws
+pub mod CountedLaws
+pub mod WrittenLaws

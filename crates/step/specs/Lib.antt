@@ -4,3 +4,5 @@ pub mod Range
 pub mod RowSet
 pub mod Mark
 pub mod Role
+pub mod Runs
+pub mod Steps

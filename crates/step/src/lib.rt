@@ -6,3 +6,4 @@ pub mod row_set; // row_set.rt: a set of rows
 mod walk; // walk.rt: from sibling to sibling, and from a row up to the root
 pub mod mark; // mark.rt: the axes whose rows are put into a set
 pub mod role; // role.rt: one role on any axis
+pub mod roles; // roles.rt: all roles
