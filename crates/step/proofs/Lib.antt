@@ -24,3 +24,4 @@ pub mod RoleAxisLaws
 pub mod RunLaws
 pub mod CountedLaws
 pub mod WrittenLaws
+pub mod AskLaws

@@ -1,4 +1,5 @@
 // One location step for all roles.
+pub mod ask; // ask.rt: the axis code, the test code and its name
 pub mod want; // want.rt: the node test as a wanted kind and a wanted name
 pub mod scan; // scan.rt: the rows of a range that fit
 pub mod ranges; // ranges.rt: the axes whose rows come out as ranges

@@ -1,0 +1,42 @@
+// The codes of a step: document 01, refusals 6 and 7.
+ghost use mathlib.Core.Path.{_≡_};
+ghost use Rattle.tree.specs.Axis.{axisOk};
+ghost use Rattle.tree.specs.Test.{testOk};
+ghost use Rattle.tree.specs.Refusal.{askCheck};
+ghost use Rattle.step.specs.Steps.{askOf};
+
+use tree::Checked;
+
+// Whether the axis code is known.
+pub fn axis_ok(axis: usize) -> bool
+    ensures { λ r. ⌜ r ≡ axisOk axis ⌝ }
+{
+    match axis {
+        1..=11 => true,
+        _ => false,
+    }
+}
+
+// Whether the test code is known and the name fits it.
+pub fn test_ok(test: usize, test_name: usize) -> bool
+    ensures { λ r. ⌜ r ≡ testOk test «test_name» ⌝ }
+{
+    match test {
+        2 | 6 => test_name != 0,
+        0..=7 => test_name == 0,
+        _ => false,
+    }
+}
+
+// Refusal 6 or 7, or that the codes are right.
+pub fn check_ask(axis: usize, test: usize, test_name: usize) -> Checked
+    ensures { λ r. ⌜ r ≡ askCheck (askOf axis test «test_name») ⌝ }
+{
+    if !axis_ok(axis) {
+        return Checked::Refused(6, 0);
+    }
+    if !test_ok(test, test_name) {
+        return Checked::Refused(7, 0);
+    }
+    Checked::Passed
+}
