@@ -25,3 +25,8 @@ pub mod RunLaws
 pub mod CountedLaws
 pub mod WrittenLaws
 pub mod AskLaws
+pub mod LeavesLaws
+pub mod KeptOfLaws
+pub mod KeptPassLaws
+pub mod KeptOuterLaws
+pub mod KeptRunLaws

@@ -154,7 +154,7 @@ module _ (role row : List ℕ) (n i j : ℕ) (p : PairsFit role row n) (e : RunE
       let q : at role (suc (j - 1)) ≡ at role j = ap (at role) last in
       ⊎-elim (λ z. absurd (e .next l (sym z))) (λ z. z) (eq-or-lt-of-le (let z : at role i ≤ at role j = omega arith in z))
 
-  rest-above : RolesBelow (withRole (at role i) (part row i j)) (pairsFrom role row j)
+  pub rest-above : RolesBelow (withRole (at role i) (part row i j)) (pairsFrom role row j)
   rest-above a b u v = elim (decLt j (length role)) [
     | yes l ↦
         let w : In b (pairsOf (at role j ∷ drop (suc j) role) (at row j ∷ drop (suc j) row)) =

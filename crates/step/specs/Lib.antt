@@ -6,3 +6,5 @@ pub mod Mark
 pub mod Role
 pub mod Runs
 pub mod Steps
+pub mod Leaves
+pub mod KeptOf

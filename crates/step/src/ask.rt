@@ -4,7 +4,6 @@ ghost use Rattle.tree.specs.Axis.{axisOk};
 ghost use Rattle.tree.specs.Test.{testOk};
 ghost use Rattle.tree.specs.Refusal.{askCheck};
 ghost use Rattle.step.specs.Steps.{askOf};
-
 use tree::Checked;
 
 // Whether the axis code is known.

@@ -1,10 +1,12 @@
 // One location step for all roles.
 pub mod ask; // ask.rt: the axis code, the test code and its name
+pub mod checks; // checks.rt: refusals 1 to 7
 pub mod want; // want.rt: the node test as a wanted kind and a wanted name
 pub mod scan; // scan.rt: the rows of a range that fit
 pub mod ranges; // ranges.rt: the axes whose rows come out as ranges
 pub mod row_set; // row_set.rt: a set of rows
 mod walk; // walk.rt: from sibling to sibling, and from a row up to the root
 pub mod mark; // mark.rt: the axes whose rows are put into a set
+pub mod kept; // kept.rt: the kept count of one role
 pub mod role; // role.rt: one role on any axis
 pub mod roles; // roles.rt: all roles

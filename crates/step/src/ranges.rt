@@ -10,7 +10,7 @@ use super::scan::emit;
 use super::scan::emit_one;
 
 // The greater of two rows.
-fn later(a: usize, b: usize) -> usize
+pub fn later(a: usize, b: usize) -> usize
     ensures { λ r. ⌜ r ≡ max a b ⌝ }
 {
     if a < b { b } else { a }

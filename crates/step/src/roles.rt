@@ -3,11 +3,16 @@ ghost use mathlib.Core.Path.{_≡_};
 ghost use Prim.Native.Nat.{_<_, _≤_};
 ghost use lib.ListN.{length, replicate};
 ghost use Rattle.tree.specs.Table.{tableOf};
+ghost use Rattle.tree.specs.Rules.{Shape};
 ghost use Rattle.tree.specs.Pairs.{pairsOf};
+ghost use Rattle.tree.specs.Kept.{keptCount};
+ghost use Rattle.tree.specs.Refusal.{pairCheck};
+ghost use Rattle.tree.specs.declared.Checked.the-variants.{Passed};
 ghost use Rattle.tree.specs.Step.{stepList};
 ghost use Rattle.step.specs.Reach.{Wrote};
 ghost use Rattle.step.specs.Runs.{RunEnd};
 ghost use Rattle.step.specs.Steps.{askOf, Steps, Fits, Lists};
+use super::kept::kept_of;
 use super::role::one_role;
 use super::want::wanted_kind;
 
@@ -130,4 +135,27 @@ pub fn write_all(
         i = j;
     }
     m
+}
+
+// How many distinct pairs remain when redundant ones are dropped.
+pub fn kept_all(
+    axis: usize,
+    size: &[usize],
+    level: &[usize],
+    count: usize,
+    role: &[usize],
+    row: &[usize],
+) -> usize
+    requires { ⌜ Shape (now size) (now level) count ⌝ }
+    requires { ⌜ pairCheck (now role) (now row) count ≡ Passed ⌝ }
+    ensures { λ r. ⌜ r ≡ keptCount axis (now (level .entry)) (pairsOf (now (role .entry)) (now (row .entry))) ⌝ }
+{
+    let mut kept = 0;
+    let mut i = 0;
+    while i < role.len() {
+        let j = run_end(role, i);
+        kept = kept + kept_of(axis, size, level, count, &row[i..j]);
+        i = j;
+    }
+    kept
 }

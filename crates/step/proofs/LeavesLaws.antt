@@ -1,0 +1,98 @@
+-- What a step leaves, by the way it ends: refused by a check (`leaves-refused`), without room (`leaves-full`), or with its
+-- lines written (`leaves-listed`). `leaves-only`: two ends that the contract allows are the same. `call-known`: what the
+-- checks that pass say.
+-- Assumes nothing.
+use mathlib.Core.Path.{_≡_, refl, sym, ap, ap₂, _∙_}
+use mathlib.Core.Bool.{Bool, true, false, cond}
+use mathlib.Core.List.{List}
+use Prim.Native.Nat.{ℕ, _<_, _≤_, min}
+use native.Mathlib.Omega.{arith}
+use borrow.Author.Tests.{lt-ltb, le-ltb}
+use lib.Dec.{ltb}
+use lib.ListN.{length}
+use Rattle.tree.specs.Table.{Table}
+use Rattle.tree.specs.Pairs.{Pair, pairsOf, rolesOf, rowsOf}
+use Rattle.tree.specs.Step.{Ask, stepList}
+use Rattle.tree.specs.Kept.{keptCount}
+use Rattle.tree.specs.Refusal.{given, next, tableCheck, pairCheck, askCheck, roomCheck}
+use Rattle.tree.specs.Outcome.{StepOutcome, stepOutcome, stepIf, stepCheck}
+use Rattle.tree.specs.declared.Checked.{Checked}
+use Rattle.tree.specs.declared.Checked.the-variants.{Passed, Refused}
+use Rattle.tree.specs.declared.Stepped.{Stepped}
+use Rattle.tree.specs.declared.Stepped.the-variants.{Listed, Refused as NotListed}
+use Rattle.tree.proofs.SoundLaws.{next-passed, table-passes}
+use Rattle.step.specs.Steps.{Lists}
+use Rattle.step.specs.Leaves.{Leaves, Known}
+use Rattle.step.proofs.WrittenLaws.{length-rows}
+
+next-next : (x y z w : Checked) → next x (next y (next z w)) ≡ next (next x (next y z)) w
+unfolding next
+next-next (Refused m p) y z w = refl
+next-next Passed (Refused m p) z w = refl
+next-next Passed Passed z w = refl
+
+module _ (t : Table) (a : Ask) (role row outRole outRow : List ℕ) where
+  -- refusals 1 to 7
+  abbrev pub callCheck : Checked
+  callCheck = next (tableCheck t) (next (pairCheck role row (t .count)) (askCheck a))
+
+  abbrev lines : List Pair
+  lines = stepList t a (pairsOf role row)
+
+  step-check : stepCheck t role row a outRole outRow ≡ next callCheck (roomCheck (length lines) outRole outRow)
+  unfolding stepCheck
+  step-check = next-next (tableCheck t) (pairCheck role row (t .count)) (askCheck a) (roomCheck (length lines) outRole outRow)
+
+  pub leaves-refused : (n p : ℕ) → callCheck ≡ Refused n p
+      → Leaves (stepOutcome t role row a outRole outRow) (NotListed n p) outRole outRow
+  unfolding stepOutcome stepIf next
+  leaves-refused n p e =
+      let c : stepCheck t role row a outRole outRow ≡ Refused n p =
+      step-check ∙ ap (λ (x : Checked). next x (roomCheck (length lines) outRole outRow)) e in
+      rw c (record { answers = refl; role-is = refl; row-is = refl })
+
+  pub call-known : callCheck ≡ Passed → Known t a role row
+  call-known e =
+      let p = next-passed _ _ .0 e in
+      let q = next-passed _ _ .0 (p .1) in
+      record { sound = table-passes t .0 (p .0); pairs = q .0; asked = q .1 }
+
+  known-passed : Known t a role row → callCheck ≡ Passed
+  known-passed k = next-passed _ _ .1 (table-passes t .1 (k .sound), next-passed _ _ .1 (k .pairs, k .asked))
+
+  room-check : Known t a role row → stepCheck t role row a outRole outRow ≡ roomCheck (length lines) outRole outRow
+  unfolding next
+  room-check k = step-check ∙ ap (λ (x : Checked). next x (roomCheck (length lines) outRole outRow)) (known-passed k)
+
+  pub leaves-full : (total : ℕ) → Known t a role row → total ≡ length lines → min (length outRole) (length outRow) < total
+      → Leaves (stepOutcome t role row a outRole outRow) (NotListed 8 total) outRole outRow
+  unfolding stepOutcome stepIf roomCheck given
+  leaves-full total k e l =
+      let c : stepCheck t role row a outRole outRow ≡ Refused 8 (length lines) =
+      room-check k ∙ ap (λ (b : Bool). cond b (Refused 8 (length lines)) Passed)
+      (lt-ltb (min (length outRole) (length outRow)) (length lines) (omega arith)) in
+      rw c (record { answers = ap (NotListed 8) e; role-is = refl; row-is = refl })
+
+  pub leaves-listed : {r kept : ℕ} {newRole newRow : List ℕ} → Known t a role row
+      → length lines ≤ min (length outRole) (length outRow)
+      → Lists t a role row outRole outRow r newRole newRow → kept ≡ keptCount (a .axis) (t .level) (pairsOf role row)
+      → Leaves (stepOutcome t role row a outRole outRow) (Listed r kept) newRole newRow
+  unfolding stepOutcome stepIf roomCheck given
+  leaves-listed {r} {kept} k l w e =
+      let c : stepCheck t role row a outRole outRow ≡ Passed =
+      room-check k ∙ ap (λ (b : Bool). cond b (Refused 8 (length lines)) Passed)
+      (le-ltb (min (length outRole) (length outRow)) (length lines) l) in
+      rw c (record {
+        answers = ap₂ Listed (w .rows .many ∙ length-rows lines) e;
+        role-is = w .roles .holds;
+        row-is = w .rows .holds;
+      })
+
+-- two ends that the contract allows are the same
+pub leaves-only : {o : StepOutcome} {x y : Stepped} {a b c d : List ℕ} → Leaves o x a b → Leaves o y c d
+    → (x ≡ y) × (a ≡ c) × (b ≡ d)
+leaves-only p q = (
+  p .answers ∙ sym (q .answers),
+  p .role-is ∙ sym (q .role-is),
+  p .row-is ∙ sym (q .row-is),
+)

@@ -1,0 +1,49 @@
+// What a step checks before it looks at its room: document 01, refusals 1 to 7, in their order.
+ghost use mathlib.Core.Path.{_≡_};
+ghost use Rattle.tree.specs.Table.{tableOf};
+ghost use Rattle.tree.specs.Refusal.{next, tableCheck, pairCheck, askCheck};
+ghost use Rattle.step.specs.Steps.{askOf};
+use super::ask::check_ask;
+use table::pairs::check_pairs;
+use tree::Checked;
+
+// Refusals 3 to 7.
+pub fn check_pairs_and_ask(
+    role: &[usize],
+    row: &[usize],
+    count: usize,
+    axis: usize,
+    test: usize,
+    test_name: usize,
+) -> Checked
+    ensures { λ r. ⌜ r ≡ next (pairCheck (now (role .entry)) (now (row .entry)) count) (askCheck (askOf axis test «test_name»)) ⌝ }
+{
+    let checked = check_pairs(role, row, count);
+    match checked {
+        Checked::Refused(number, place) => Checked::Refused(number, place),
+        Checked::Passed => check_ask(axis, test, test_name),
+    }
+}
+
+// Refusals 1 to 7.
+pub fn check_call(
+    key: &[usize],
+    size: &[usize],
+    level: &[usize],
+    kind: &[usize],
+    name: &[usize],
+    count: usize,
+    role: &[usize],
+    row: &[usize],
+    axis: usize,
+    test: usize,
+    test_name: usize,
+) -> Checked
+    ensures { λ r. ⌜ r ≡ next (tableCheck (tableOf (now (key .entry)) (now (size .entry)) (now (level .entry)) (now (kind .entry)) (now (name .entry)) count)) (next (pairCheck (now (role .entry)) (now (row .entry)) count) (askCheck (askOf axis test «test_name»))) ⌝ }
+{
+    let checked = table::check(key, size, level, kind, name, count);
+    match checked {
+        Checked::Refused(number, place) => Checked::Refused(number, place),
+        Checked::Passed => check_pairs_and_ask(role, row, count, axis, test, test_name),
+    }
+}
