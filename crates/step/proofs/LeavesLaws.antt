@@ -31,19 +31,29 @@ next-next (Refused m p) y z w = refl
 next-next Passed (Refused m p) z w = refl
 next-next Passed Passed z w = refl
 
-module _ (t : Table) (a : Ask) (role row outRole outRow : List ℕ) where
-  -- refusals 1 to 7
-  abbrev pub callCheck : Checked
-  callCheck = next (tableCheck t) (next (pairCheck role row (t .count)) (askCheck a))
+-- refusals 1 to 7
+abbrev pub callChecks : Table → Ask → List ℕ → List ℕ → Checked
+callChecks t a role row = next (tableCheck t) (next (pairCheck role row (t .count)) (askCheck a))
 
+module _ (t : Table) (a : Ask) (role row : List ℕ) where
+  pub call-known : callChecks t a role row ≡ Passed → Known t a role row
+  call-known e =
+      let p = next-passed _ _ .0 e in
+      let q = next-passed _ _ .0 (p .1) in
+      record { sound = table-passes t .0 (p .0); pairs = q .0; asked = q .1 }
+
+  known-passed : Known t a role row → callChecks t a role row ≡ Passed
+  known-passed k = next-passed _ _ .1 (table-passes t .1 (k .sound), next-passed _ _ .1 (k .pairs, k .asked))
+
+module _ (t : Table) (a : Ask) (role row outRole outRow : List ℕ) where
   abbrev lines : List Pair
   lines = stepList t a (pairsOf role row)
 
-  step-check : stepCheck t role row a outRole outRow ≡ next callCheck (roomCheck (length lines) outRole outRow)
+  step-check : stepCheck t role row a outRole outRow ≡ next (callChecks t a role row) (roomCheck (length lines) outRole outRow)
   unfolding stepCheck
   step-check = next-next (tableCheck t) (pairCheck role row (t .count)) (askCheck a) (roomCheck (length lines) outRole outRow)
 
-  pub leaves-refused : (n p : ℕ) → callCheck ≡ Refused n p
+  pub leaves-refused : (n p : ℕ) → callChecks t a role row ≡ Refused n p
       → Leaves (stepOutcome t role row a outRole outRow) (NotListed n p) outRole outRow
   unfolding stepOutcome stepIf next
   leaves-refused n p e =
@@ -51,18 +61,9 @@ module _ (t : Table) (a : Ask) (role row outRole outRow : List ℕ) where
       step-check ∙ ap (λ (x : Checked). next x (roomCheck (length lines) outRole outRow)) e in
       rw c (record { answers = refl; role-is = refl; row-is = refl })
 
-  pub call-known : callCheck ≡ Passed → Known t a role row
-  call-known e =
-      let p = next-passed _ _ .0 e in
-      let q = next-passed _ _ .0 (p .1) in
-      record { sound = table-passes t .0 (p .0); pairs = q .0; asked = q .1 }
-
-  known-passed : Known t a role row → callCheck ≡ Passed
-  known-passed k = next-passed _ _ .1 (table-passes t .1 (k .sound), next-passed _ _ .1 (k .pairs, k .asked))
-
   room-check : Known t a role row → stepCheck t role row a outRole outRow ≡ roomCheck (length lines) outRole outRow
   unfolding next
-  room-check k = step-check ∙ ap (λ (x : Checked). next x (roomCheck (length lines) outRole outRow)) (known-passed k)
+  room-check k = step-check ∙ ap (λ (x : Checked). next x (roomCheck (length lines) outRole outRow)) (known-passed t a role row k)
 
   pub leaves-full : (total : ℕ) → Known t a role row → total ≡ length lines → min (length outRole) (length outRow) < total
       → Leaves (stepOutcome t role row a outRole outRow) (NotListed 8 total) outRole outRow

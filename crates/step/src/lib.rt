@@ -1,4 +1,10 @@
-// One location step for all roles.
+// One location step for all roles: document 01, "The step". Nothing is written before it is known that all of it fits.
+ghost use mathlib.Core.Path.{_≡_};
+ghost use Rattle.tree.specs.Table.{tableOf};
+ghost use Rattle.tree.specs.Outcome.{stepOutcome};
+ghost use Rattle.step.specs.Steps.{askOf};
+ghost use Rattle.step.specs.Leaves.{Leaves, Known};
+
 pub mod ask; // ask.rt: the axis code, the test code and its name
 pub mod checks; // checks.rt: refusals 1 to 7
 pub mod want; // want.rt: the node test as a wanted kind and a wanted name
@@ -10,3 +16,119 @@ pub mod mark; // mark.rt: the axes whose rows are put into a set
 pub mod kept; // kept.rt: the kept count of one role
 pub mod role; // role.rt: one role on any axis
 pub mod roles; // roles.rt: all roles
+
+use tree::Checked;
+use tree::Stepped;
+
+// The step of a call that refusals 1 to 7 do not apply to: writes the lines to the front of the result columns and answers
+// their number and the kept count, or refuses with 8 and leaves the columns as they were.
+pub fn step_known(
+    key: &[usize],
+    size: &[usize],
+    level: &[usize],
+    kind: &[usize],
+    name: &[usize],
+    count: usize,
+    role: &[usize],
+    row: &[usize],
+    axis: usize,
+    test: usize,
+    test_name: usize,
+    out_role: &mut [usize],
+    out_row: &mut [usize],
+) -> Stepped
+    requires { ⌜ Known (tableOf (now key) (now size) (now level) (now kind) (now name) count) (askOf axis test «test_name») (now role) (now row) ⌝ }
+    ensures { λ r. ⌜ Leaves (stepOutcome (tableOf (now (key .entry)) (now (size .entry)) (now (level .entry)) (now (kind .entry)) (now (name .entry)) count) (now (role .entry)) (now (row .entry)) (askOf axis test «test_name») (now («out_role» .entry)) (now («out_row» .entry))) r (now («out_role» .exit)) (now («out_row» .exit)) ⌝ }
+{
+    let mut up = [0usize; 4096];
+    mark::parents(size, level, count, &mut up);
+    let total = roles::count_all(
+        key,
+        size,
+        level,
+        kind,
+        name,
+        count,
+        &up,
+        role,
+        row,
+        axis,
+        test,
+        test_name,
+    );
+    if out_role.len() < total {
+        return Stepped::Refused(8, total);
+    }
+    if out_row.len() < total {
+        return Stepped::Refused(8, total);
+    }
+    let kept = roles::kept_all(axis, size, level, count, role, row);
+    let listed = roles::write_all(
+        key,
+        size,
+        level,
+        kind,
+        name,
+        count,
+        &up,
+        role,
+        row,
+        axis,
+        test,
+        test_name,
+        out_role,
+        out_row,
+    );
+    Stepped::Listed(listed, kept)
+}
+
+// One step: the number of results and the kept count, or a refusal from 1 to 8, which changes no column.
+pub fn step(
+    key: &[usize],
+    size: &[usize],
+    level: &[usize],
+    kind: &[usize],
+    name: &[usize],
+    count: usize,
+    role: &[usize],
+    row: &[usize],
+    axis: usize,
+    test: usize,
+    test_name: usize,
+    out_role: &mut [usize],
+    out_row: &mut [usize],
+) -> Stepped
+    ensures { λ r. ⌜ Leaves (stepOutcome (tableOf (now (key .entry)) (now (size .entry)) (now (level .entry)) (now (kind .entry)) (now (name .entry)) count) (now (role .entry)) (now (row .entry)) (askOf axis test «test_name») (now («out_role» .entry)) (now («out_row» .entry))) r (now («out_role» .exit)) (now («out_row» .exit)) ⌝ }
+{
+    let checked = checks::check_call(
+        key,
+        size,
+        level,
+        kind,
+        name,
+        count,
+        role,
+        row,
+        axis,
+        test,
+        test_name,
+    );
+    match checked {
+        Checked::Refused(number, place) => Stepped::Refused(number, place),
+        Checked::Passed => step_known(
+            key,
+            size,
+            level,
+            kind,
+            name,
+            count,
+            role,
+            row,
+            axis,
+            test,
+            test_name,
+            out_role,
+            out_row,
+        ),
+    }
+}
