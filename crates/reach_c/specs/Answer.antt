@@ -1,11 +1,16 @@
 -- The library's answers as one struct for C: include/reach.h. Refusal 0 is acceptance; what an answer does not use is 0.
 -- Assumes nothing.
+use mathlib.Core.Path.{_≡_}
+use mathlib.Core.List.{List}
 use Prim.Native.Nat.{ℕ}
 use lib.IntN.{ℤ, pos}
+use Rattle.tree.specs.Outcome.{StepOutcome}
 use Rattle.tree.specs.declared.Checked.{Checked}
 use Rattle.tree.specs.declared.Checked.the-variants.{Passed, Refused}
 use Rattle.tree.specs.declared.Found.{Found}
 use Rattle.tree.specs.declared.Found.the-variants.{At, Refused as NotFound}
+use Rattle.tree.specs.declared.Stepped.{Stepped}
+use Rattle.tree.specs.declared.Stepped.the-variants.{Listed, Refused as NotListed}
 use Rattle.reach_c.specs.declared.answer.Answer.{Answer}
 
 -- accepted, with two numbers and a move
@@ -24,3 +29,14 @@ checkAnswer (Refused n p) = refused n p
 unfoldable pub findAnswer : Found → Answer
 findAnswer (At r) = accepted r 0 (pos 0)
 findAnswer (NotFound n p) = refused n p
+
+-- the number of results comes first, then the kept count
+unfoldable pub stepAnswer : Stepped → Answer
+stepAnswer (Listed n k) = accepted n k (pos 0)
+stepAnswer (NotListed n p) = refused n p
+
+-- a step's answer as C's struct, and both result columns, are those of the outcome
+pub record StepLeaves (o : StepOutcome) (answer : Answer) (role row : List ℕ) : Type 0 where
+  pub answers : answer ≡ stepAnswer (o .answer)
+  pub role-is : role ≡ o .role
+  pub row-is : row ≡ o .row

@@ -1,8 +1,9 @@
 // The library's answers as one struct for C. Refusal 0 is acceptance; what an answer does not use is 0.
 ghost use mathlib.Core.Path.{_≡_};
-ghost use Rattle.reach_c.specs.Answer.{accepted, refused, checkAnswer, findAnswer};
+ghost use Rattle.reach_c.specs.Answer.{accepted, refused, checkAnswer, findAnswer, stepAnswer};
 use tree::Checked;
 use tree::Found;
+use tree::Stepped;
 
 #[repr(C)]
 pub struct Answer {
@@ -56,5 +57,15 @@ pub fn of_find(found: Found) -> Answer
     match found {
         Found::At(row) => accept(row, 0, 0),
         Found::Refused(number, place) => refuse(number, place),
+    }
+}
+
+// What a step answers: the number of results first, then the kept count.
+pub fn of_step(stepped: Stepped) -> Answer
+    ensures { λ r. ⌜ r ≡ stepAnswer stepped ⌝ }
+{
+    match stepped {
+        Stepped::Listed(results, kept) => accept(results, kept, 0),
+        Stepped::Refused(number, place) => refuse(number, place),
     }
 }
