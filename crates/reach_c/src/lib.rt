@@ -60,6 +60,18 @@ pub extern "C" fn reach_step(
     ensures { λ r. ⌜ StepLeaves (stepOutcome (tableOf (now (key .entry)) (now (size .entry)) (now (level .entry)) (now (kind .entry)) (now (name .entry)) count) (now (role .entry)) (now (row .entry)) (askOf axis test «test_name») (now («out_role» .entry)) (now («out_row» .entry))) r (now («out_role» .exit)) (now («out_row» .exit)) ⌝ }
 {
     answer::of_step(step::step(
-        key, size, level, kind, name, count, role, row, axis, test, test_name, out_role, out_row,
+        key,
+        size,
+        level,
+        kind,
+        name,
+        count,
+        role,
+        row,
+        axis,
+        test,
+        test_name,
+        out_role,
+        out_row,
     ))
 }
