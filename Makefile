@@ -9,7 +9,7 @@ CALLS ?= 1000000
 
 reach:
 	rt check reach
-	cat crates/reach/stdout
+	tools/run reach
 
 library:
 	tools/staticlib
