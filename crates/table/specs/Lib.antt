@@ -1,3 +1,4 @@
 pub mod First
 pub mod Chain
 pub mod Open
+pub mod Places

@@ -12,18 +12,27 @@ use crate::rows::kind_ok;
 use crate::rows::name_ok;
 
 // Whether a later row keeps the rules of level, kind and name after a row of level top, with a size that is no more than
-// a table has rows.
+// a table has rows. Most rows are elements, so they come first.
 pub fn row_fits(own: usize, top: usize, kind: usize, size: usize, name: usize, i: usize) -> bool
     requires { ⌜ top < 64 ⌝ }
     ensures { λ r. ⌜ r ≡ rowFits own top kind size name i ⌝ }
 {
-    both(
-        both(
-            both(both(1 <= own, own <= 63), own <= top + 1),
-            size <= 4096,
-        ),
-        both(kind_ok(kind, size, i), name_ok(kind, name)),
-    )
+    if own < 1 {
+        return false;
+    }
+    if 63 < own {
+        return false;
+    }
+    if top + 1 < own {
+        return false;
+    }
+    if 4096 < size {
+        return false;
+    }
+    if kind == 1 {
+        return name != 0;
+    }
+    both(kind_ok(kind, size, i), name_ok(kind, name))
 }
 
 // Whether row 0 keeps the same rules.

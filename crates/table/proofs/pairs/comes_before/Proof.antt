@@ -1,21 +1,18 @@
--- `table::pairs::comes_before` meets its contract, test by test. Assumes nothing.
-use borrow.Author.Tests.{lt-ltb, le-ltb, eq-eqb, ne-eqb}
+-- `table::pairs::comes_before` meets its contract: the tests, joined in the definition's order. Assumes nothing.
 use Rattle.tree.specs.Pairs.{before}
 use borrow.Author.Needs.{needs}
 use Rattle.table.proofs.pairs.comes_before.Statement.{statement}
 use Rattle.table.proofs.pairs.comes_before.Tie as tie
 
+both-requires : tie.Need-both-requires
+both-requires c κs = search needs
+
+either-requires : tie.Need-either-requires
+either-requires c κs = search needs
+
 returns : tie.Need-returns
 unfolding before
-returns c = simp (lt-ltb _ _ (c .if1 .taken))
-
-returns-2 : tie.Need-returns-2
-unfolding before
-returns-2 c = simp (le-ltb _ _ (c .before .if1 .left), eq-eqb _ _ (c .if2 .taken))
-
-returns-3 : tie.Need-returns-3
-unfolding before
-returns-3 c = simp (le-ltb _ _ (c .before .if1 .left), ne-eqb _ _ (c .if2 .left))
+returns c = cc
 
 pub comes-before-spec : {M : Type 1} → statement M
-comes-before-spec = tie.close (tie.spec returns returns-2 returns-3)
+comes-before-spec = tie.close (tie.spec both-requires either-requires returns)

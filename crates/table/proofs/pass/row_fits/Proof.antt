@@ -1,20 +1,44 @@
--- `table::pass::row_fits` meets its contract: the tests, joined in the definition's order. Assumes nothing.
+-- `table::pass::row_fits` meets its contract, test by test. Assumes nothing.
+use borrow.Author.Tests.{le-leb, lt-leb}
+use Rattle.tree.specs.Sound.{kindOk, nameOk, hasName}
 use Rattle.table.specs.Open.{rowFits}
 use borrow.Author.Needs.{needs}
 use Rattle.table.proofs.pass.row_fits.Statement.{statement}
 use Rattle.table.proofs.pass.row_fits.Tie as tie
 
-both-requires : tie.Need-both-requires
-both-requires c κs = search needs
+returns : tie.Need-returns
+unfolding rowFits
+returns c = simp (lt-leb _ _ (c .if1 .taken))
 
-add-both : tie.Need-add-both
-add-both c = search needs
+returns-2 : tie.Need-returns-2
+unfolding rowFits
+returns-2 c = simp (le-leb _ _ (c .before .if1 .left), lt-leb _ _ (c .if2 .taken))
 
-both-requires-2 : tie.Need-both-requires-2
-both-requires-2 c κs = search needs
+add-if3 : tie.Need-add-if3
+add-if3 c = search needs
 
-both-requires-3 : tie.Need-both-requires-3
-both-requires-3 c κs = search needs
+returns-3 : tie.Need-returns-3
+unfolding rowFits
+returns-3 c = simp (le-leb _ _ (c .before .before .if1 .left), le-leb _ _ (c .before .if2 .left), lt-leb _ _ (c .if3 .taken))
+
+returns-4 : tie.Need-returns-4
+unfolding rowFits
+returns-4 c = simp (
+  le-leb _ _ (c .before .before .before .if1 .left),
+  le-leb _ _ (c .before .before .if2 .left),
+  le-leb _ _ (c .before .if3 .left),
+  lt-leb _ _ (c .if4 .taken),
+)
+
+returns-5 : tie.Need-returns-5
+unfolding rowFits kindOk nameOk hasName
+returns-5 c = simp (
+  le-leb _ _ (c .before .before .before .before .if1 .left),
+  le-leb _ _ (c .before .before .before .if2 .left),
+  le-leb _ _ (c .before .before .if3 .left),
+  le-leb _ _ (c .before .if4 .left),
+  c .if5 .taken,
+)
 
 kind-ok-requires : tie.Need-kind-ok-requires
 kind-ok-requires c κs = search needs
@@ -22,26 +46,31 @@ kind-ok-requires c κs = search needs
 name-ok-requires : tie.Need-name-ok-requires
 name-ok-requires c κs = search needs
 
-both-requires-4 : tie.Need-both-requires-4
-both-requires-4 c κs = search needs
+both-requires : tie.Need-both-requires
+both-requires c κs = search needs
 
-both-requires-5 : tie.Need-both-requires-5
-both-requires-5 c κs = search needs
-
-returns : tie.Need-returns
+returns-6 : tie.Need-returns-6
 unfolding rowFits
-returns c = cc
+returns-6 c =
+    let tests = c .before .before .before in
+    simp (
+      le-leb _ _ (tests .before .before .before .before .if1 .left),
+      le-leb _ _ (tests .before .before .before .if2 .left),
+      le-leb _ _ (tests .before .before .if3 .left),
+      le-leb _ _ (tests .before .if4 .left),
+    ) (cc)
 
 pub row-fits-spec : {M : Type 1} → statement M
 row-fits-spec =
     tie.close
     (tie.spec
-    both-requires
-    add-both
-    both-requires-2
-    both-requires-3
+    returns
+    returns-2
+    add-if3
+    returns-3
+    returns-4
+    returns-5
     kind-ok-requires
     name-ok-requires
-    both-requires-4
-    both-requires-5
-    returns)
+    both-requires
+    returns-6)
