@@ -17,12 +17,16 @@ rangedAxis axis = eqb axis 1 || (eqb axis 3 || (eqb axis 4 || (eqb axis 8 || eqb
 unfoldable pub markedAxis : ℕ → Bool
 markedAxis axis = eqb axis 2 || (eqb axis 5 || (eqb axis 6 || (eqb axis 7 || (eqb axis 10 || eqb axis 11))))
 
--- an axis, a tree with its parents, contexts, an empty set and room for the rows
+-- the axes that follow parents
+unfoldable pub climbsAxis : ℕ → Bool
+climbsAxis axis = eqb axis 5 || (eqb axis 6 || (eqb axis 7 || (eqb axis 10 || eqb axis 11)))
+
+-- an axis, a tree, its parents where the axis follows them, contexts, an empty set and room for the rows
 pub record RoleAsk (axis : ℕ) (size level kind name up : List ℕ) (n wantKind wantName : ℕ) (cs words out : List ℕ)
     : Type 0 where
   pub known : axisOk axis ≡ true
   pub asks : RoleIn axis size level kind name n wantKind wantName cs out
-  pub parents : Parents level n up
+  pub parents : climbsAxis axis ≡ true → Parents level n up
   pub blank : Blank words
 
 -- the rows in front of out, and the set empty again

@@ -1,5 +1,6 @@
 -- What the step of all roles asks for and leaves, once the call is known to be right. Assumes nothing.
 use mathlib.Core.Path.{_≡_}
+use mathlib.Core.Bool.{true}
 use mathlib.Core.List.{List}
 use Prim.Native.Nat.{ℕ, _≤_}
 use lib.ListN.{length}
@@ -10,16 +11,17 @@ use Rattle.tree.specs.Step.{Ask, stepList}
 use Rattle.tree.specs.Refusal.{pairCheck, askCheck}
 use Rattle.tree.specs.declared.Checked.the-variants.{Passed}
 use Rattle.step.specs.Reach.{Wrote, Parents}
+use Rattle.step.specs.Role.{climbsAxis}
 
 abbrev pub askOf : ℕ → ℕ → ℕ → Ask
 askOf axis test name = record { axis = axis; test = test; name = name }
 
--- refusals 1 to 7 do not apply, and up holds the parents
+-- refusals 1 to 7 do not apply, and up holds the parents where the axis follows them
 pub record Steps (t : Table) (a : Ask) (up role row : List ℕ) : Type 0 where
   pub sound : Sound t
   pub pairs : pairCheck role row (t .count) ≡ Passed
   pub asked : askCheck a ≡ Passed
-  pub parents : Parents (t .level) (t .count) up
+  pub parents : climbsAxis (a .axis) ≡ true → Parents (t .level) (t .count) up
 
 -- the result columns have room
 pub record Fits (t : Table) (a : Ask) (role row outRole outRow : List ℕ) : Type 0 where

@@ -41,7 +41,7 @@ pub fn step_known(
     ensures { λ r. ⌜ Leaves (stepOutcome (tableOf (now (key .entry)) (now (size .entry)) (now (level .entry)) (now (kind .entry)) (now (name .entry)) count) (now (role .entry)) (now (row .entry)) (askOf axis test «test_name») (now («out_role» .entry)) (now («out_row» .entry))) r (now («out_role» .exit)) (now («out_row» .exit)) ⌝ }
 {
     let mut up = [0usize; 4096];
-    mark::parents(size, level, count, &mut up);
+    role::parents_for(axis, size, level, count, &mut up);
     let total = roles::count_all(
         key,
         size,

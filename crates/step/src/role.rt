@@ -1,10 +1,11 @@
 // One role: the rows that its contexts reach on an axis, each arm one axis of the definition.
 ghost use mathlib.Core.Path.{_≡_};
 ghost use mathlib.Core.Bool.{true};
+ghost use Rattle.tree.specs.Rules.{Shape};
 ghost use Rattle.step.specs.Reach.{oneRole, RoleIn, Wrote, Parents};
 ghost use Rattle.step.specs.Want.{fits};
 ghost use Rattle.step.specs.RowSet.{Marks, Marked};
-ghost use Rattle.step.specs.Role.{rangedAxis, markedAxis, RoleAsk, RoleDone};
+ghost use Rattle.step.specs.Role.{rangedAxis, markedAxis, climbsAxis, RoleAsk, RoleDone};
 use super::mark;
 use super::ranges;
 use super::row_set;
@@ -110,7 +111,7 @@ fn marked(
 ) -> u64
     requires { ⌜ markedAxis axis ≡ true ⌝ }
     requires { ⌜ Marks (now size) (now level) count (now rows) (now words) ⌝ }
-    requires { ⌜ Parents (now level) count (now up) ⌝ }
+    requires { ⌜ (climbsAxis axis ≡ true → Parents (now level) count (now up)) ⌝ }
     ensures { λ r. ⌜ Marked axis (now (level .entry)) count (now (rows .entry)) (now (words .exit)) r ⌝ }
 {
     match axis {
@@ -120,6 +121,32 @@ fn marked(
         7 => mark::mark_self_and_ancestors(size, level, up, count, rows, words),
         10 => mark::mark_later_siblings(size, level, up, count, rows, words),
         _ => mark::mark_earlier_siblings(size, level, up, count, rows, words),
+    }
+}
+
+// Whether the axis follows parents.
+fn climbs(axis: usize) -> bool
+    ensures { λ r. ⌜ r ≡ climbsAxis axis ⌝ }
+{
+    either(
+        axis == 5,
+        either(axis == 6, either(axis == 7, either(axis == 10, axis == 11))),
+    )
+}
+
+// Leaves the parents of all rows in up where the axis follows them.
+pub fn parents_for(
+    axis: usize,
+    size: &[usize],
+    level: &[usize],
+    count: usize,
+    up: &mut [usize; 4096],
+)
+    requires { ⌜ Shape (now size) (now level) count ⌝ }
+    ensures { λ _. ⌜ (climbsAxis axis ≡ true → Parents (now (level .entry)) count (now (up .exit))) ⌝ }
+{
+    if climbs(axis) {
+        mark::parents(size, level, count, up);
     }
 }
 

@@ -51,5 +51,9 @@ pairs-pass role row n e l o i =
     least-none (outOfOrder role row) (length role) (o .places) in
     let q : least (λ k. not (ltb (at row k) n)) (length row) ≡ length row =
     least-none (λ k. not (ltb (at row k) n)) (length row) (λ k m. ap not (lt-ltb (at row k) n (i .places k m))) in
-    pair-check-is role row n e l ∙ rw (p, q, le-ltb (length role) (length role) (le-refl (length role)),
-    le-ltb (length row) (length row) (le-refl (length row)))
+    pair-check-is role row n e l ∙ rw (
+      p,
+      q,
+      le-ltb (length role) (length role) (le-refl (length role)),
+      le-ltb (length row) (length row) (le-refl (length row)),
+    )

@@ -29,7 +29,10 @@ pub fn falls_somewhere(role: &[usize], row: &[usize]) -> bool
     let mut falls = false;
     let mut i = 1;
     while i < role.len() {
-        falls = either(falls, comes_before(role[i], row[i], role[i - 1], row[i - 1]));
+        falls = either(
+            falls,
+            comes_before(role[i], row[i], role[i - 1], row[i - 1]),
+        );
         i += 1;
     }
     falls

@@ -7,8 +7,8 @@ use borrow.Author.Needs.{needs}
 use Rattle.step.proofs.step_known.Statement.{statement}
 use Rattle.step.proofs.step_known.Tie as tie
 
-parents-requires : tie.Need-parents-requires
-parents-requires c κs = sound-shape _ (c .before .before .before .before .before .before .before .before .before .before .pre .sound)
+parents-for-requires : tie.Need-parents-for-requires
+parents-for-requires c κs = sound-shape _ (c .before .before .before .before .before .before .before .before .before .before .pre .sound)
 
 count-all-requires : tie.Need-count-all-requires
 count-all-requires c κs = search needs
@@ -33,7 +33,7 @@ write-all-requires c κs =
         sound = known .sound;
         pairs = known .pairs;
         asked = known .asked;
-        parents = room .before .before .before .before .parents .ensures;
+        parents = room .before .before .before .before .parents-for .ensures;
       },
       record {
         roles = omega (arith, total, room .before .if1 .left);
@@ -59,7 +59,7 @@ pub step-known-spec : {M : Type 1} → statement M
 step-known-spec =
     tie.close
     (tie.spec
-    parents-requires
+    parents-for-requires
     count-all-requires
     returns
     returns-2

@@ -1,4 +1,6 @@
 -- `step::role::marked` meets its contract: each arm is the function of its axis. Assumes nothing.
+use mathlib.Core.Path.{ap}
+use Rattle.step.specs.Role.{climbsAxis}
 use Rattle.step.proofs.RoleAxisLaws.{marked-as, marked-last}
 use borrow.Author.Needs.{needs}
 use Rattle.step.proofs.role.marked.Statement.{statement}
@@ -8,19 +10,35 @@ mark-children-requires : tie.Need-mark-children-requires
 mark-children-requires c κs = search needs
 
 mark-parents-requires : tie.Need-mark-parents-requires
-mark-parents-requires c κs = search needs
+unfolding climbsAxis
+mark-parents-requires c κs =
+    let pre = c .before .before .before .before .before .pre .1 in
+    (pre .0, pre .1 (ap climbsAxis (c .before .match .keys2)))
 
 mark-ancestors-requires : tie.Need-mark-ancestors-requires
-mark-ancestors-requires c κs = search needs
+unfolding climbsAxis
+mark-ancestors-requires c κs =
+    let pre = c .before .before .before .before .before .pre .1 in
+    (pre .0, pre .1 (ap climbsAxis (c .before .match .keys3)))
 
 mark-self-and-ancestors-requires : tie.Need-mark-self-and-ancestors-requires
-mark-self-and-ancestors-requires c κs = search needs
+unfolding climbsAxis
+mark-self-and-ancestors-requires c κs =
+    let pre = c .before .before .before .before .before .pre .1 in
+    (pre .0, pre .1 (ap climbsAxis (c .before .match .keys4)))
 
 mark-later-siblings-requires : tie.Need-mark-later-siblings-requires
-mark-later-siblings-requires c κs = search needs
+unfolding climbsAxis
+mark-later-siblings-requires c κs =
+    let pre = c .before .before .before .before .before .pre .1 in
+    (pre .0, pre .1 (ap climbsAxis (c .before .match .keys5)))
 
 mark-earlier-siblings-requires : tie.Need-mark-earlier-siblings-requires
-mark-earlier-siblings-requires c κs = search needs
+unfolding climbsAxis
+mark-earlier-siblings-requires c κs =
+    let other = c .before .match .rest in
+    let pre = c .before .before .before .before .before .pre in
+    (pre .1 .0, pre .1 .1 (ap climbsAxis (marked-last _ (pre .0) (other .0 .0 .0 .0 .1) (other .0 .0 .0 .1) (other .0 .0 .1) (other .0 .1) (other .1))))
 
 returns : tie.Need-returns
 returns c = marked-as (c .before .before .match .keys1) (c .mark-children .ensures)
