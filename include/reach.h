@@ -26,8 +26,8 @@ extern "C" {
 typedef struct {
     size_t refusal; /* 0: accepted; else the number below */
     size_t place;   /* where: a row, a pair's place or a number of results, by the number; else 0 */
-    size_t first;   /* find: the row */
-    size_t second;  /* not used yet */
+    size_t first;   /* find: the row; step: the number of results */
+    size_t second;  /* step: the kept count */
     int64_t moved;  /* not used yet */
 } reach_answer;
 
@@ -35,7 +35,40 @@ typedef struct {
 enum {
     REACH_BAD_COUNT = 1,   /* the count is 0, above 4,096, or above the shortest table column; place 0 */
     REACH_UNSOUND_ROW = 2, /* a row is not sound; place: the least such row */
+    REACH_BAD_PAIRS = 3,   /* pair columns differ in length or exceed 4,096; place 0 */
+    REACH_DISORDER = 4,    /* a pair is less than the one before it; place: the least such place */
+    REACH_NO_SUCH_ROW = 5, /* a pair's row is not below the count; place: the least such place */
+    REACH_BAD_AXIS = 6,    /* the axis code is not 1 to 11; place 0 */
+    REACH_BAD_TEST = 7,    /* the test code is not 0 to 7, or the name does not fit it; place 0 */
+    REACH_NO_ROOM = 8,     /* more results than the shorter result column holds; place: the number of results */
     REACH_NO_SUCH_KEY = 9  /* no row in use has the key (always so for key 0); place 0 */
+};
+
+/* Axis codes of a step. */
+enum {
+    REACH_SELF = 1,
+    REACH_CHILD = 2,
+    REACH_DESCENDANT = 3,
+    REACH_DESCENDANT_OR_SELF = 4,
+    REACH_PARENT = 5,
+    REACH_ANCESTOR = 6,
+    REACH_ANCESTOR_OR_SELF = 7,
+    REACH_FOLLOWING = 8,
+    REACH_PRECEDING = 9,
+    REACH_FOLLOWING_SIBLING = 10,
+    REACH_PRECEDING_SIBLING = 11
+};
+
+/* Test codes of a step. The two named ones need a name other than 0, the others need name 0. */
+enum {
+    REACH_ANY_NODE = 0,
+    REACH_ANY_ELEMENT = 1,
+    REACH_NAMED_ELEMENT = 2,
+    REACH_TEXT = 3,
+    REACH_COMMENT = 4,
+    REACH_ANY_INSTRUCTION = 5,
+    REACH_NAMED_INSTRUCTION = 6,
+    REACH_DOCUMENT = 7
 };
 
 /* Checks the table: refusals 1 and 2. Writes nothing. */
@@ -47,6 +80,18 @@ reach_answer reach_check(const size_t *key, size_t key_length, const size_t *siz
 reach_answer reach_find(const size_t *key, size_t key_length, const size_t *size, size_t size_length,
                         const size_t *level, size_t level_length, const size_t *kind, size_t kind_length,
                         const size_t *name, size_t name_length, size_t count, size_t wanted);
+
+/*
+ * One location step for all roles at once: refusals 1 to 8. The pairs (role, row) ascend by role, then row; equal pairs count
+ * once. The results, strictly ascending by role, then row, are written to out_role and out_row from place 0 on; places beyond
+ * them stay as they were, and nothing is written on a refusal. first: the number of results. second: how many distinct
+ * pairs remain when redundant ones are dropped.
+ */
+reach_answer reach_step(const size_t *key, size_t key_length, const size_t *size, size_t size_length,
+                        const size_t *level, size_t level_length, const size_t *kind, size_t kind_length,
+                        const size_t *name, size_t name_length, size_t count, const size_t *role, size_t role_length,
+                        const size_t *row, size_t row_length, size_t axis, size_t test, size_t test_name,
+                        size_t *out_role, size_t out_role_length, size_t *out_row, size_t out_row_length);
 
 #ifdef __cplusplus
 }

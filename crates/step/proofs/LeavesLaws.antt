@@ -1,27 +1,26 @@
--- What a step leaves, by the way it ends: refused by a check (`leaves-refused`), without room (`leaves-full`), or with its
--- lines written (`leaves-listed`). `leaves-only`: two ends that the contract allows are the same. `call-known`: what the
+-- What a step leaves, by the way it ends: refused by a check (`leaves-refused`), without room (`leaves-full`, else `room-fits`), or
+-- with its lines written (`leaves-listed`). `leaves-only`: two ends that the contract allows are the same. `call-known`: what the
 -- checks that pass say.
 -- Assumes nothing.
 use mathlib.Core.Path.{_≡_, refl, sym, ap, ap₂, _∙_}
-use mathlib.Core.Bool.{Bool, true, false, cond}
+use mathlib.Core.Bool.{Bool}
 use mathlib.Core.List.{List}
 use Prim.Native.Nat.{ℕ, _<_, _≤_, min}
 use native.Mathlib.Omega.{arith}
-use borrow.Author.Tests.{lt-ltb, le-ltb}
-use lib.Dec.{ltb}
+use borrow.Author.Tests.{ltb-false}
 use lib.ListN.{length}
 use Rattle.tree.specs.Table.{Table}
 use Rattle.tree.specs.Pairs.{Pair, pairsOf, rolesOf, rowsOf}
 use Rattle.tree.specs.Step.{Ask, stepList}
 use Rattle.tree.specs.Kept.{keptCount}
-use Rattle.tree.specs.Refusal.{given, next, tableCheck, pairCheck, askCheck, roomCheck}
+use Rattle.tree.specs.Refusal.{next, tableCheck, pairCheck, askCheck, roomCheck}
 use Rattle.tree.specs.Outcome.{StepOutcome, stepOutcome, stepIf, stepCheck}
 use Rattle.tree.specs.declared.Checked.{Checked}
 use Rattle.tree.specs.declared.Checked.the-variants.{Passed, Refused}
 use Rattle.tree.specs.declared.Stepped.{Stepped}
 use Rattle.tree.specs.declared.Stepped.the-variants.{Listed, Refused as NotListed}
-use Rattle.tree.proofs.SoundLaws.{next-passed, table-passes}
-use Rattle.step.specs.Steps.{Lists}
+use Rattle.tree.proofs.SoundLaws.{next-passed, given-passed, table-passes}
+use Rattle.step.specs.Steps.{Fits, Lists}
 use Rattle.step.specs.Leaves.{Leaves, Known}
 use Rattle.step.proofs.WrittenLaws.{length-rows}
 
@@ -65,29 +64,29 @@ module _ (t : Table) (a : Ask) (role row outRole outRow : List ℕ) where
   unfolding next
   room-check k = step-check ∙ ap (λ (x : Checked). next x (roomCheck (length lines) outRole outRow)) (known-passed t a role row k)
 
-  pub leaves-full : (total : ℕ) → Known t a role row → total ≡ length lines → min (length outRole) (length outRow) < total
-      → Leaves (stepOutcome t role row a outRole outRow) (NotListed 8 total) outRole outRow
-  unfolding stepOutcome stepIf roomCheck given
-  leaves-full total k e l =
-      let c : stepCheck t role row a outRole outRow ≡ Refused 8 (length lines) =
-      room-check k ∙ ap (λ (b : Bool). cond b (Refused 8 (length lines)) Passed)
-      (lt-ltb (min (length outRole) (length outRow)) (length lines) (omega arith)) in
-      rw c (record { answers = ap (NotListed 8) e; role-is = refl; row-is = refl })
+  -- without room
+  pub leaves-full : (n p : ℕ) → Known t a role row → roomCheck (length lines) outRole outRow ≡ Refused n p
+      → Leaves (stepOutcome t role row a outRole outRow) (NotListed n p) outRole outRow
+  unfolding stepOutcome stepIf
+  leaves-full n p k e = rw (room-check k ∙ e) (record { answers = refl; role-is = refl; row-is = refl })
+
+  -- there is room in both columns
+  pub room-fits : roomCheck (length lines) outRole outRow ≡ Passed → Fits t a role row outRole outRow
+  unfolding roomCheck
+  room-fits e =
+      let l : length lines ≤ min (length outRole) (length outRow) = ltb-false _ _ (given-passed _ _ _ e) in
+      record { roles = omega arith; rows = omega arith }
 
   pub leaves-listed : {r kept : ℕ} {newRole newRow : List ℕ} → Known t a role row
-      → length lines ≤ min (length outRole) (length outRow)
+      → roomCheck (length lines) outRole outRow ≡ Passed
       → Lists t a role row outRole outRow r newRole newRow → kept ≡ keptCount (a .axis) (t .level) (pairsOf role row)
       → Leaves (stepOutcome t role row a outRole outRow) (Listed r kept) newRole newRow
-  unfolding stepOutcome stepIf roomCheck given
-  leaves-listed {r} {kept} k l w e =
-      let c : stepCheck t role row a outRole outRow ≡ Passed =
-      room-check k ∙ ap (λ (b : Bool). cond b (Refused 8 (length lines)) Passed)
-      (le-ltb (min (length outRole) (length outRow)) (length lines) l) in
-      rw c (record {
-        answers = ap₂ Listed (w .rows .many ∙ length-rows lines) e;
-        role-is = w .roles .holds;
-        row-is = w .rows .holds;
-      })
+  unfolding stepOutcome stepIf
+  leaves-listed k f w e = rw (room-check k ∙ f) (record {
+    answers = ap₂ Listed (w .rows .many ∙ length-rows lines) e;
+    role-is = w .roles .holds;
+    row-is = w .rows .holds;
+  })
 
 -- two ends that the contract allows are the same
 pub leaves-only : {o : StepOutcome} {x y : Stepped} {a b c d : List ℕ} → Leaves o x a b → Leaves o y c d

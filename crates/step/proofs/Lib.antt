@@ -30,3 +30,9 @@ pub mod KeptOfLaws
 pub mod KeptPassLaws
 pub mod KeptOuterLaws
 pub mod KeptRunLaws
+pub mod GatherLaws
+pub mod SumLaws
+pub mod MostRoleLaws
+pub mod MostAxisLaws
+pub mod MostSpanLaws
+pub mod MostLaws

@@ -1,4 +1,5 @@
--- One role on any axis: which axes are ranged (`ranged-last`) and which are marked (`marked-last`, `marked-rest`); the rows
+-- One role on any axis: which axes are ranged (`ranged-last`) and which are marked (`marked-last`, `marked-rest`), and that siblings
+-- follow parents (`siblings-climb`); the rows
 -- of a marked set are the role's rows (`marked-rows`, `marked-drains`); `role-as`,
 -- `wrote-axis`, `marked-as`: the same at an equal axis.
 -- Assumes nothing.
@@ -21,7 +22,7 @@ use Rattle.tree.proofs.AcceptLaws.{neither}
 use Rattle.step.specs.Reach.{anyOn, oneRole, RoleIn, Wrote, Parents}
 use Rattle.step.specs.Want.{fits}
 use Rattle.step.specs.RowSet.{has, RowSet, Marks, Marked, Drains}
-use Rattle.step.specs.Role.{rangedAxis, markedAxis}
+use Rattle.step.specs.Role.{rangedAxis, markedAxis, climbsAxis}
 use Rattle.step.proofs.WroteLaws.{wrote-as}
 
 pub role-as : {a b : ℕ} {size level kind name : List ℕ} {n i j : ℕ} {cs out : List ℕ} → a ≡ b
@@ -94,6 +95,14 @@ marked-rest a k n =
     -- a number that is not the least one left is above it
     up : (k a : ℕ) → k ≤ a → (a ≡ k → ⊥) → suc k ≤ a
     up k a l n = ⊎-elim (λ e. absurd (n (sym e))) (λ m. m) (eq-or-lt-of-le l)
+
+-- the sibling axes follow parents
+pub siblings-climb : (a : ℕ) → 10 ≤ a → a < 12 → climbsAxis a ≡ true
+unfolding climbsAxis
+siblings-climb a l h = elim (ℕ-discrete a 10) [
+  | yes e ↦ rw e
+  | no n ↦ let e : a ≡ 11 = omega arith in rw e
+]
 
 -- ── the rows of the set ──
 module _ {axis : ℕ} {level : List ℕ} {n : ℕ} {cs words : List ℕ} {used : ℕ} (m : Marked axis level n cs words used)

@@ -14,9 +14,12 @@ pub mod row_set; // row_set.rt: a set of rows
 mod walk; // walk.rt: from sibling to sibling, and from a row up to the root
 pub mod mark; // mark.rt: the axes whose rows are put into a set
 pub mod kept; // kept.rt: the kept count of one role
+pub mod most; // most.rt: an upper bound of the number of lines
 pub mod role; // role.rt: one role on any axis
 pub mod roles; // roles.rt: all roles
+pub mod room; // room.rt: whether the lines fit
 
+use table::logic::smaller;
 use tree::Checked;
 use tree::Stepped;
 
@@ -42,7 +45,7 @@ pub fn step_known(
 {
     let mut up = [0usize; 4096];
     role::parents_for(axis, size, level, count, &mut up);
-    let total = roles::count_all(
+    let fitting = room::check_room(
         key,
         size,
         level,
@@ -55,31 +58,31 @@ pub fn step_known(
         axis,
         test,
         test_name,
+        smaller(out_role.len(), out_row.len()),
     );
-    if out_role.len() < total {
-        return Stepped::Refused(8, total);
+    match fitting {
+        Checked::Refused(number, place) => Stepped::Refused(number, place),
+        Checked::Passed => {
+            let kept = roles::kept_all(axis, size, level, count, role, row);
+            let listed = roles::write_all(
+                key,
+                size,
+                level,
+                kind,
+                name,
+                count,
+                &up,
+                role,
+                row,
+                axis,
+                test,
+                test_name,
+                out_role,
+                out_row,
+            );
+            Stepped::Listed(listed, kept)
+        }
     }
-    if out_row.len() < total {
-        return Stepped::Refused(8, total);
-    }
-    let kept = roles::kept_all(axis, size, level, count, role, row);
-    let listed = roles::write_all(
-        key,
-        size,
-        level,
-        kind,
-        name,
-        count,
-        &up,
-        role,
-        row,
-        axis,
-        test,
-        test_name,
-        out_role,
-        out_row,
-    );
-    Stepped::Listed(listed, kept)
 }
 
 // One step: the number of results and the kept count, or a refusal from 1 to 8, which changes no column.

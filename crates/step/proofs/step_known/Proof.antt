@@ -1,8 +1,8 @@
--- `step::step_known` meets its contract: the lines are counted, and written only where they fit. Assumes nothing.
-use mathlib.Core.Path.{sym}
-use native.Mathlib.Omega.{arith}
+-- `step::step_known` meets its contract: the lines are written only where it is known that they fit. Assumes nothing.
+use mathlib.Core.Path.{sym, _∙_}
+use Rattle.tree.specs.Refusal.{roomCheck}
 use Rattle.tree.proofs.SoundLaws.{sound-shape}
-use Rattle.step.proofs.LeavesLaws.{leaves-full, leaves-listed}
+use Rattle.step.proofs.LeavesLaws.{leaves-full, room-fits, leaves-listed}
 use borrow.Author.Needs.{needs}
 use Rattle.step.proofs.step_known.Statement.{statement}
 use Rattle.step.proofs.step_known.Tie as tie
@@ -10,36 +10,40 @@ use Rattle.step.proofs.step_known.Tie as tie
 parents-for-requires : tie.Need-parents-for-requires
 parents-for-requires c κs = sound-shape _ (c .before .before .before .before .before .before .before .before .before .before .pre .sound)
 
-count-all-requires : tie.Need-count-all-requires
-count-all-requires c κs = search needs
+smaller-requires : tie.Need-smaller-requires
+smaller-requires c κs = search needs
 
-returns : tie.Need-returns
-returns c = leaves-full _ _ _ _ _ _ _ (c .before .before .before .before .before .before .before .before .before .before .before .before .before .before .pre) (c .before .count-all .ensures) (omega (arith, c .if1 .taken))
+check-room-requires : tie.Need-check-room-requires
+check-room-requires c κs =
+    let known = c .before .before .before .before .before .before .before .before .before .before .before .before .before .pre in
+    record { sound = known .sound; pairs = known .pairs; asked = known .asked; parents = c .before .before .parents-for .ensures }
 
-returns-2 : tie.Need-returns-2
-returns-2 c = leaves-full _ _ _ _ _ _ _ (c .before .before .before .before .before .before .before .before .before .before .before .before .before .before .before .pre) (c .before .before .count-all .ensures) (omega (arith, c .if2 .taken))
+enum-known-fitting : tie.Need-enum-known-fitting
+enum-known-fitting c = search needs
+
+enum-told : tie.Need-enum-told
+enum-told c = search needs
 
 kept-all-requires : tie.Need-kept-all-requires
 kept-all-requires c κs =
-    let known = c .before .before .before .before .before .before .before .before .before .before .before .before .before .before .before .pre in
+    let known = c .before .before .before .before .before .before .before .before .before .before .before .before .before .before .before .before .pre in
     (sound-shape _ (known .sound), known .pairs)
 
 write-all-requires : tie.Need-write-all-requires
+unfolding roomCheck
 write-all-requires c κs =
-    let room = c .before .before .before .before in
-    let known = room .before .before .before .before .before .before .before .before .before .before .before .before .before .before .before .pre in
-    let total = room .before .before .count-all .ensures in (
-      record {
-        sound = known .sound;
-        pairs = known .pairs;
-        asked = known .asked;
-        parents = room .before .before .before .before .parents-for .ensures;
-      },
-      record {
-        roles = omega (arith, total, room .before .if1 .left);
-        rows = omega (arith, total, room .if2 .left);
-      },
+    let told = c .before .before .before .before in
+    let known = told .before .before .before .before .before .before .before .before .before .before .before .before .before .before .before .before .pre in
+    let room = rw (told .before .before .before .smaller .ensures) at (told .before .before .check-room .ensures) in (
+      record { sound = known .sound; pairs = known .pairs; asked = known .asked; parents = told .before .before .before .before .before .parents-for .ensures },
+      room-fits _ _ _ _ _ _ (sym room ∙ told .enum-told .given .1),
     )
+
+returns : tie.Need-returns
+unfolding roomCheck
+returns c =
+    let room = rw (c .before .before .before .before .smaller .ensures) at (c .before .before .before .check-room .ensures) in
+    leaves-full _ _ _ _ _ _ _ _ (c .before .before .before .before .before .before .before .before .before .before .before .before .before .before .before .before .before .pre) (sym room ∙ c .before .fitting .given .1)
 
 same-length : tie.Need-same-length
 same-length c = search needs
@@ -47,24 +51,26 @@ same-length c = search needs
 same-length-2 : tie.Need-same-length-2
 same-length-2 c = search needs
 
-returns-3 : tie.Need-returns-3
-returns-3 c =
-    let wrote = c .before .before .before .before in
-    let room = wrote .before .before .before .before .before in
-    let total = room .before .before .count-all .ensures in
-    leaves-listed _ _ _ _ _ _ (room .before .before .before .before .before .before .before .before .before .before .before .before .before .before .before .pre) (omega (arith, total, room .before .if1 .left, room .if2 .left))
-    (wrote .write-all .ensures) (wrote .before .before .before .before .kept-all .ensures)
+returns-2 : tie.Need-returns-2
+unfolding roomCheck
+returns-2 c =
+    let told = c .before .before .before .before .before .before .before .before .before in
+    let room = rw (told .before .before .before .smaller .ensures) at (told .before .before .check-room .ensures) in
+    leaves-listed _ _ _ _ _ _ (told .before .before .before .before .before .before .before .before .before .before .before .before .before .before .before .before .pre) (sym room ∙ told .enum-told .given .1)
+    (c .before .before .before .before .write-all .ensures) (c .before .before .before .before .before .before .before .before .kept-all .ensures)
 
 pub step-known-spec : {M : Type 1} → statement M
 step-known-spec =
     tie.close
     (tie.spec
     parents-for-requires
-    count-all-requires
-    returns
-    returns-2
+    smaller-requires
+    check-room-requires
+    enum-known-fitting
+    enum-told
     kept-all-requires
     write-all-requires
+    returns
     same-length
     same-length-2
-    returns-3)
+    returns-2)

@@ -1,0 +1,68 @@
+// Whether the lines of a step fit: document 01, refusal 8. They are counted only where no cheap bound shows that they do.
+ghost use mathlib.Core.Path.{_≡_};
+ghost use lib.Dec.{ltb};
+ghost use lib.ListN.{length};
+ghost use Rattle.tree.specs.Table.{tableOf};
+ghost use Rattle.tree.specs.Pairs.{pairsOf};
+ghost use Rattle.tree.specs.Step.{stepList};
+ghost use Rattle.tree.specs.Refusal.{given};
+ghost use Rattle.step.specs.Steps.{askOf, Steps};
+use super::most::surely_fits;
+use super::roles::count_all;
+use tree::Checked;
+
+// Refusal 8 with the number of lines, or that they are at most room.
+pub fn check_room(
+    key: &[usize],
+    size: &[usize],
+    level: &[usize],
+    kind: &[usize],
+    name: &[usize],
+    count: usize,
+    up: &[usize; 4096],
+    role: &[usize],
+    row: &[usize],
+    axis: usize,
+    test: usize,
+    test_name: usize,
+    room: usize,
+) -> Checked
+    requires { ⌜ Steps (tableOf (now key) (now size) (now level) (now kind) (now name) count) (askOf axis test «test_name») (now up) (now role) (now row) ⌝ }
+    ensures { λ r. ⌜ r ≡ given (ltb room (length (stepList (tableOf (now (key .entry)) (now (size .entry)) (now (level .entry)) (now (kind .entry)) (now (name .entry)) count) (askOf axis test «test_name») (pairsOf (now (role .entry)) (now (row .entry)))))) 8 (length (stepList (tableOf (now (key .entry)) (now (size .entry)) (now (level .entry)) (now (kind .entry)) (now (name .entry)) count) (askOf axis test «test_name») (pairsOf (now (role .entry)) (now (row .entry))))) ⌝ }
+{
+    if surely_fits(
+        key,
+        size,
+        level,
+        kind,
+        name,
+        count,
+        up,
+        role,
+        row,
+        axis,
+        test,
+        test_name,
+        room,
+    ) {
+        return Checked::Passed;
+    }
+    let total = count_all(
+        key,
+        size,
+        level,
+        kind,
+        name,
+        count,
+        up,
+        role,
+        row,
+        axis,
+        test,
+        test_name,
+    );
+    if room < total {
+        return Checked::Refused(8, total);
+    }
+    Checked::Passed
+}
