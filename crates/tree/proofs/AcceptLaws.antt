@@ -1,29 +1,33 @@
 -- When an edit is accepted, in plain words: `insert-passes`, `delete-passes`, `rename-passes`, `edit-passes`.
+-- Tests that fail, `neither`, `neither-of`; a search that finds nothing, `none-below`.
 -- Assumes nothing.
-use mathlib.Core.Path.{_≡_, refl, sym, ap, ap₂, subst, _∙_}
+use mathlib.Core.Path.{_≡_, refl, ap, _∙_}
 use mathlib.Core.Logic.{_⊎_, inl, inr, ⊎-elim, _↔_}
-use mathlib.Core.Bool.{Bool, true, false, cond, not, _||_, true≢false}
-use mathlib.Core.List.{List}
-use Prim.Native.Nat.{ℕ, zero, suc, _+_, _-_, _<_, _≤_}
-use native.Mathlib.Nat.{le-refl}
+use mathlib.Core.Bool.{Bool, true, false, not, _||_, true≢false}
+use Prim.Native.Nat.{ℕ, _+_, _<_, _≤_}
 use native.Mathlib.Omega.{arith}
-use borrow.Author.Tests.{eqb-true, eqb-false, eq-eqb, ne-eqb, ltb-true, ltb-false, lt-ltb, le-ltb, leb-true, le-leb, not-true, not-false}
-use lib.Dec.{eqb, ltb, leb}
+use borrow.Author.Tests.{eqb-true, eqb-false, eq-eqb, ne-eqb, ltb-true, ltb-false, lt-ltb, le-ltb, leb-true, le-leb}
+use borrow.Author.Tests.{not-false}
+use lib.Dec.{eqb, ltb}
 use Rattle.tree.specs.Search.{least}
 use Rattle.tree.specs.Table.{Table, at, shortest, countOk}
 use Rattle.tree.specs.Sound.{rowOf, hasName, firstBad}
-use Rattle.tree.specs.Refusal.{given, givenAt, next, tableCheck, keyCheck, badPiece, insertCheck, deleteCheck, renameCheck}
+use Rattle.tree.specs.Rules.{Sound}
+use Rattle.tree.specs.Refusal.{givenAt, tableCheck, keyCheck, badPiece, insertCheck, deleteCheck, renameCheck}
 use Rattle.tree.specs.Outcome.{editCheck}
 use Rattle.tree.specs.declared.Checked.{Checked}
 use Rattle.tree.specs.declared.Checked.the-variants.{Passed}
-use Rattle.tree.proofs.SearchLaws.{least-below, least-passes, least-none, least-le}
-use Rattle.tree.specs.Rules.{Sound}
-use Rattle.tree.proofs.SoundLaws.{table-passes, next-passed, given-passed, given-not, either, either-left, either-right}
+use Rattle.tree.proofs.SearchLaws.{least-below, least-none}
+use Rattle.tree.proofs.SoundLaws.{table-passes, next-passed, given-passed, given-not, either, either-left}
+use Rattle.tree.proofs.SoundLaws.{either-right}
 
+-- ── tests that fail ──
+-- where a test of the one or the other fails, both fail
 pub neither : (a b : Bool) → (a || b) ≡ false → (a ≡ false) × (b ≡ false)
 neither true b e = absurd (true≢false e)
 neither false b e = (refl, e)
 
+-- and back
 pub neither-of : {a b : Bool} → a ≡ false → b ≡ false → (a || b) ≡ false
 neither-of {a} {b} p q = ap (λ (x : Bool). x || b) p ∙ q
 
@@ -38,6 +42,7 @@ none-below f n = (
 abbrev pub NoKey : Table → ℕ → Type 0
 NoKey t x = (j : ℕ) → j < t .count → at (t .key) j ≡ x → ⊥
 
+-- exactly then it is not found
 no-key : (t : Table) (x : ℕ) → (ltb (rowOf (t .key) (t .count) x) (t .count) ≡ false) ↔ NoKey t x
 unfolding rowOf
 no-key t x = (
@@ -45,6 +50,7 @@ no-key t x = (
   λ h. none-below (λ k. eqb (at (t .key) k) x) (t .count) .1 (λ j l. ne-eqb _ _ (h j l)),
 )
 
+-- ── an insertion ──
 -- refusals 10 to 14 do not apply
 pub record InsertFits (t : Table) (r : ℕ) (p : Table) : Type 0 where
   pub piece : Sound p
@@ -55,6 +61,7 @@ pub record InsertFits (t : Table) (r : ℕ) (p : Table) : Type 0 where
   pub few : t .count + p .count ≤ 4096
   pub room : t .count + p .count ≤ shortest t
 
+-- refusal 10
 piece-ok : (p : Table) → (badPiece p ≡ false) ↔ (Sound p × (at (p .kind) 0 ≡ 0 → ⊥))
 unfolding badPiece tableCheck
 piece-ok p = (
@@ -65,10 +72,17 @@ piece-ok p = (
       neither-of (neither-of (given-passed _ _ _ (a .0)) (given-passed _ _ _ (a .1))) (ne-eqb _ _ (h .1)),
 )
 
+-- its own check passes exactly then
 pub insert-passes : (t : Table) (r : ℕ) (p : Table) → (insertCheck t r p ≡ Passed) ↔ InsertFits t r p
 unfolding insertCheck givenAt
 insert-passes t r p = (there, back)
   where
+    tooDeep : ℕ → Bool
+    tooDeep i = ltb 63 (at (p .level) i + (at (t .level) r + 1))
+
+    taken : ℕ → Bool
+    taken i = ltb (rowOf (t .key) (t .count) (at (p .key) i)) (t .count)
+
     there : insertCheck t r p ≡ Passed → InsertFits t r p
     there e =
         let a = next-passed _ _ .0 e in
@@ -81,8 +95,9 @@ insert-passes t r p = (there, back)
           piece = o .0;
           root = o .1;
           parent = leb-true _ _ (not-false _ (given-passed _ _ _ (b .0)));
-          low = λ i l. ltb-false _ _ (none-below (λ i. ltb 63 (at (p .level) i + (at (t .level) r + 1))) (p .count) .0 (given-passed _ _ _ (c .0)) i l);
-          fresh = λ i l. no-key t (at (p .key) i) .0 (none-below (λ i. ltb (rowOf (t .key) (t .count) (at (p .key) i)) (t .count)) (p .count) .0 (given-passed _ _ _ (d .0)) i l);
+          low = λ i l. ltb-false _ _ (none-below tooDeep (p .count) .0 (given-passed _ _ _ (c .0)) i l);
+          fresh = λ i l. no-key t (at (p .key) i) .0
+              (none-below taken (p .count) .0 (given-passed _ _ _ (d .0)) i l);
           few = ltb-false _ _ (m .0);
           room = ltb-false _ _ (m .1);
         }
@@ -94,45 +109,63 @@ insert-passes t r p = (there, back)
           next-passed _ _ .1 (
             given-not _ _ (ap not (le-leb _ _ (h .parent))),
             next-passed _ _ .1 (
-              given-not _ _ (none-below (λ i. ltb 63 (at (p .level) i + (at (t .level) r + 1))) (p .count) .1 (λ i l. le-ltb _ _ (h .low i l))),
+              given-not _ _ (none-below tooDeep (p .count) .1 (λ i l. le-ltb _ _ (h .low i l))),
               next-passed _ _ .1 (
-                given-not _ _ (none-below (λ i. ltb (rowOf (t .key) (t .count) (at (p .key) i)) (t .count)) (p .count) .1 (λ i l. no-key t (at (p .key) i) .1 (h .fresh i l))),
+                given-not _ _
+                    (none-below taken (p .count) .1 (λ i l. no-key t (at (p .key) i) .1 (h .fresh i l))),
                 given-not _ _ (neither-of (le-ltb _ _ (h .few)) (le-ltb _ _ (h .room))),
               ),
             ),
           ),
         )
 
+-- ── a deletion ──
+-- its own check, refusal 15, passes exactly if the row is not row 0
 pub delete-passes : (t : Table) (r : ℕ) → (deleteCheck t r ≡ Passed) ↔ (r ≡ 0 → ⊥)
 unfolding deleteCheck
 delete-passes t r = (λ e. eqb-false _ _ (given-passed _ _ _ e), λ h. given-not _ _ (ne-eqb _ _ h))
 
+-- ── a renaming ──
 -- refusal 16 does not apply
 pub record RenameFits (kind m : ℕ) : Type 0 where
   pub named : (kind ≡ 1) ⊎ (kind ≡ 4)
   pub nonzero : m ≡ 0 → ⊥
 
+-- its own check passes exactly then
 pub rename-passes : (t : Table) (r m : ℕ) → (renameCheck t r m ≡ Passed) ↔ RenameFits (at (t .kind) r) m
 unfolding renameCheck hasName
 rename-passes t r m = (
   λ e. let a = neither _ _ (given-passed _ _ _ e) in
-      record { named = ⊎-elim (λ p. inl (eqb-true _ _ p)) (λ p. inr (eqb-true _ _ p)) (either _ _ (not-false _ (a .0))); nonzero = eqb-false _ _ (a .1) },
+      record {
+        named = ⊎-elim (λ p. inl (eqb-true _ _ p)) (λ p. inr (eqb-true _ _ p)) (either _ _ (not-false _ (a .0)));
+        nonzero = eqb-false _ _ (a .1);
+      },
   λ h. let n : (eqb (at (t .kind) r) 1 || eqb (at (t .kind) r) 4) ≡ true =
-      ⊎-elim (λ p. either-left _ (eq-eqb _ _ p)) (λ p. either-right (eqb (at (t .kind) r) 1) (eq-eqb _ _ p)) (h .named) in
+      ⊎-elim (λ p. either-left _ (eq-eqb _ _ p)) (λ p. either-right (eqb (at (t .kind) r) 1) (eq-eqb _ _ p))
+      (h .named) in
       given-not _ _ (neither-of (ap not n) (ne-eqb _ _ (h .nonzero))),
 )
 
--- the table is sound, the key is found, and the edit's own check passes at its row
-pub record Accepted (t : Table) (k : ℕ) (own : Checked) : Type 0 where
+-- ── all three ──
+-- refusals 1, 2 and 9 do not apply: the table is sound, the key is found; and the edit's own check passes at its row
+pub record EditFits (t : Table) (k : ℕ) (own : Checked) : Type 0 where
   pub sound : Sound t
   pub found : rowOf (t .key) (t .count) k < t .count
   pub passes : own ≡ Passed
 
-pub edit-passes : (t : Table) (k : ℕ) (own : Checked) → (editCheck t k own ≡ Passed) ↔ Accepted t k own
+-- the whole check passes exactly then
+pub edit-passes : (t : Table) (k : ℕ) (own : Checked) → (editCheck t k own ≡ Passed) ↔ EditFits t k own
 unfolding editCheck keyCheck
 edit-passes t k own = (
   λ e. let a = next-passed _ _ .0 e in
       let b = next-passed _ _ .0 (a .1) in
-      record { sound = table-passes t .0 (a .0); found = ltb-true _ _ (not-false _ (given-passed _ _ _ (b .0))); passes = b .1 },
-  λ h. next-passed _ _ .1 (table-passes t .1 (h .sound), next-passed _ _ .1 (given-not _ _ (ap not (lt-ltb _ _ (h .found))), h .passes)),
+      record {
+        sound = table-passes t .0 (a .0);
+        found = ltb-true _ _ (not-false _ (given-passed _ _ _ (b .0)));
+        passes = b .1;
+      },
+  λ h. next-passed _ _ .1 (
+    table-passes t .1 (h .sound),
+    next-passed _ _ .1 (given-not _ _ (ap not (lt-ltb _ _ (h .found))), h .passes),
+  ),
 )

@@ -1,0 +1,136 @@
+-- The columns of an edited table: 01, "Finding and editing by key". Where a row stands afterwards: `opened-stays`,
+-- `opened-moves`, `closed-stays`, `closed-moves`; what it holds where sizes change: `changed-at`, `changed-take`,
+-- `changed-after`. Rows in use and what follows them: `opened-is`, `closed-is`.
+-- No column changes its length: `length-opened`, `length-closed`, `length-changed`. Assumes nothing.
+use mathlib.Core.Path.{_≡_, refl, sym, ap, ap₂, _∙_}
+use mathlib.Core.Bool.{Bool, false, cond}
+use mathlib.Core.List.{List, [], _∷_, _++_, append-assoc}
+use Prim.Native.Nat.{ℕ, zero, suc, _+_, _-_, _<_, _≤_}
+use native.Mathlib.Nat.{le-of-suc-le-suc, not-suc-le-zero}
+use native.Mathlib.Omega.{arith}
+use lib.ListN.{length, take, drop, replicate, length-append, length-take, length-drop, length-replicate}
+use lib.ListN.{List·getD-append}
+use lib.Seq.{take-take, take-add, drop-at, length-take-le, getD-take, getD-drop, getD-append-add}
+use Rattle.tree.specs.Table.{at}
+use Rattle.tree.specs.Edit.{opened, closed, changed}
+
+-- what stands at n in two lists is what stands in the second at the place after the first
+at-past : (a b : List ℕ) (n i : ℕ) → length a + i ≡ n → at (a ++ b) n ≡ at b i
+at-past a b n i e = ap (at (a ++ b)) (sym e) ∙ getD-append-add a b i 0
+
+-- a part from g to n of a list of at least n, read at a place
+at-part : (g n : ℕ) (xs ys : List ℕ) (i : ℕ) → g ≤ i → i < n → n ≤ length xs
+    → at (take (n - g) (drop g xs) ++ ys) (i - g) ≡ at xs i
+at-part g n xs ys i h l m =
+    let s : i - g < length (take (n - g) (drop g xs)) = simp (length-take, length-drop) (omega arith) in
+    let q : i - g < n - g = omega arith in
+    List·getD-append (take (n - g) (drop g xs)) ys 0 (i - g) s
+    ∙ getD-take (n - g) (drop g xs) (i - g) 0 q ∙ getD-drop g xs (i - g) 0
+    ∙ ap (at xs) (let z : g + (i - g) ≡ i = omega arith in z)
+
+-- the same part is what is left of the first n
+drop-take : (g n : ℕ) (xs : List ℕ) → g ≤ n → n ≤ length xs → take (n - g) (drop g xs) ≡ drop g (take n xs)
+drop-take g n xs h l =
+    sym (drop-at (take g xs) (take (n - g) (drop g xs)) g (length-take-le g xs (omega arith)))
+    ∙ ap (drop g) (sym (take-add g (n - g) xs))
+    ∙ ap (λ (m : ℕ). drop g (take m xs)) (let z : g + (n - g) ≡ n = omega arith in z)
+
+-- ── opened ──
+-- rows before the gap stay
+pub opened-stays : (g n by : ℕ) (piece xs : List ℕ) (i : ℕ) → i < g → g ≤ length xs
+    → at (opened g n by piece xs) i ≡ at xs i
+unfolding opened
+opened-stays g n by piece xs i h l =
+    List·getD-append (take g xs) _ 0 i (rw (length-take-le g xs l) h) ∙ getD-take g xs i 0 h
+
+-- rows from the gap on move down by as many rows as came in
+pub opened-moves : (g n by : ℕ) (piece xs : List ℕ) (i : ℕ) → g ≤ i → i < n → n ≤ length xs → by ≤ length piece
+    → at (opened g n by piece xs) (i + by) ≡ at xs i
+unfolding opened
+opened-moves g n by piece xs i h l m p =
+    at-past (take g xs) _ (i + by) (by + (i - g)) (omega (arith, length-take-le g xs (omega arith)))
+    ∙ at-past (take by piece) _ (by + (i - g)) (i - g) (omega (arith, length-take-le by piece p))
+    ∙ at-part g n xs (drop (n + by) xs) i h l m
+
+-- the rows in use, and the spare ones
+pub opened-is : (g n by : ℕ) (piece xs : List ℕ) → g ≤ n → n ≤ length xs
+    → opened g n by piece xs ≡ (take g (take n xs) ++ (take by piece ++ drop g (take n xs))) ++ drop (n + by) xs
+unfolding opened
+opened-is g n by piece xs h l =
+    ap₂ (λ (u v : List ℕ). u ++ (take by piece ++ (v ++ drop (n + by) xs))) (sym (take-take g n xs h))
+    (drop-take g n xs h l)
+    ∙ ap (λ (z : List ℕ). take g (take n xs) ++ z)
+    (sym (append-assoc (take by piece) (drop g (take n xs)) (drop (n + by) xs)))
+    ∙ sym (append-assoc (take g (take n xs)) (take by piece ++ drop g (take n xs)) (drop (n + by) xs))
+
+-- the length stays
+pub length-opened : (g n by : ℕ) (piece xs : List ℕ) → g ≤ n → by ≤ length piece → n + by ≤ length xs
+    → length (opened g n by piece xs) ≡ length xs
+unfolding opened
+length-opened g n by piece xs a b c = simp (length-append, length-take, length-drop) (omega arith)
+
+-- ── closed ──
+-- rows before those that went stay
+pub closed-stays : (r n by : ℕ) (xs : List ℕ) (i : ℕ) → i < r → r ≤ length xs → at (closed r n by xs) i ≡ at xs i
+unfolding closed
+closed-stays r n by xs i h l =
+    List·getD-append (take r xs) _ 0 i (rw (length-take-le r xs l) h) ∙ getD-take r xs i 0 h
+
+-- later rows move up by as many rows as went
+pub closed-moves : (r n by : ℕ) (xs : List ℕ) (i : ℕ) → r + by ≤ i → i < n → n ≤ length xs
+    → at (closed r n by xs) (i - by) ≡ at xs i
+unfolding closed
+closed-moves r n by xs i h l m =
+    at-past (take r xs) _ (i - by) (i - (r + by)) (omega (arith, length-take-le r xs (omega arith)))
+    ∙ at-part (r + by) n xs (replicate by 0 ++ drop n xs) i h l m
+
+-- the rows in use, then the freed and the spare ones
+pub closed-is : (r n by : ℕ) (xs : List ℕ) → r + by ≤ n → n ≤ length xs
+    → closed r n by xs ≡ (take r (take n xs) ++ drop (r + by) (take n xs)) ++ (replicate by 0 ++ drop n xs)
+unfolding closed
+closed-is r n by xs h l =
+    ap₂ (λ (u v : List ℕ). u ++ (v ++ (replicate by 0 ++ drop n xs))) (sym (take-take r n xs (omega arith)))
+    (drop-take (r + by) n xs h l)
+    ∙ sym (append-assoc (take r (take n xs)) (drop (r + by) (take n xs)) (replicate by 0 ++ drop n xs))
+
+-- the length stays
+pub length-closed : (r n by : ℕ) (xs : List ℕ) → r + by ≤ n → n ≤ length xs → length (closed r n by xs) ≡ length xs
+unfolding closed
+length-closed r n by xs a c = simp (length-append, length-take, length-drop, length-replicate) (omega arith)
+
+-- ── changed ──
+-- g is done at the rows that pass, and no others
+pub changed-at : (f : ℕ → Bool) (g : ℕ → ℕ) (xs : List ℕ) (i : ℕ) → i < length xs
+    → at (changed f g xs) i ≡ cond (f i) (g (at xs i)) (at xs i)
+unfolding changed
+changed-at f g [] i l = absurd (not-suc-le-zero l)
+changed-at f g (x ∷ xs) zero l = refl
+changed-at f g (x ∷ xs) (suc i) l = changed-at (λ i. f (suc i)) g xs i (le-of-suc-le-suc l)
+
+-- to the first n rows
+pub changed-take : (f : ℕ → Bool) (g : ℕ → ℕ) (n : ℕ) (xs : List ℕ) → take n (changed f g xs) ≡ changed f g (take n xs)
+unfolding changed
+changed-take f g zero xs = refl
+changed-take f g (suc n) [] = refl
+changed-take f g (suc n) (x ∷ xs) =
+    ap (λ (z : List ℕ). cond (f zero) (g x) x ∷ z) (changed-take (λ i. f (suc i)) g n xs)
+
+-- where no row from n on passes, nothing changes there
+pub changed-after : (f : ℕ → Bool) (g : ℕ → ℕ) (n : ℕ) (xs : List ℕ) → ((i : ℕ) → n ≤ i → f i ≡ false)
+    → drop n (changed f g xs) ≡ drop n xs
+unfolding changed
+changed-after f g zero xs h = changed-none f g xs (λ i. h i (omega arith))
+  where
+    changed-none : (f : ℕ → Bool) (g : ℕ → ℕ) (xs : List ℕ) → ((i : ℕ) → f i ≡ false) → changed f g xs ≡ xs
+    changed-none f g [] h = refl
+    changed-none f g (x ∷ xs) h =
+        ap₂ (λ (b : Bool) (z : List ℕ). cond b (g x) x ∷ z) (h zero)
+        (changed-none (λ i. f (suc i)) g xs (λ i. h (suc i)))
+changed-after f g (suc n) [] h = refl
+changed-after f g (suc n) (x ∷ xs) h = changed-after (λ i. f (suc i)) g n xs (λ i l. h (suc i) (omega arith))
+
+-- the length stays
+pub length-changed : (f : ℕ → Bool) (g : ℕ → ℕ) (xs : List ℕ) → length (changed f g xs) ≡ length xs
+unfolding changed
+length-changed f g [] = refl
+length-changed f g (x ∷ xs) = ap suc (length-changed (λ i. f (suc i)) g xs)
