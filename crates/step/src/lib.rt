@@ -63,8 +63,7 @@ pub fn step_known(
     match fitting {
         Checked::Refused(number, place) => Stepped::Refused(number, place),
         Checked::Passed => {
-            let kept = roles::kept_all(axis, size, level, count, role, row);
-            let listed = roles::write_all(
+            let tally = roles::write_all(
                 key,
                 size,
                 level,
@@ -80,7 +79,7 @@ pub fn step_known(
                 out_role,
                 out_row,
             );
-            Stepped::Listed(listed, kept)
+            Stepped::Listed(tally.listed, tally.kept)
         }
     }
 }

@@ -3,11 +3,8 @@ ghost use mathlib.Core.Path.{_≡_};
 ghost use Prim.Native.Nat.{_<_, _≤_};
 ghost use lib.ListN.{length, replicate};
 ghost use Rattle.tree.specs.Table.{tableOf};
-ghost use Rattle.tree.specs.Rules.{Shape};
 ghost use Rattle.tree.specs.Pairs.{pairsOf};
 ghost use Rattle.tree.specs.Kept.{keptCount};
-ghost use Rattle.tree.specs.Refusal.{pairCheck};
-ghost use Rattle.tree.specs.declared.Checked.the-variants.{Passed};
 ghost use Rattle.tree.specs.Step.{stepList};
 ghost use Rattle.step.specs.Reach.{Wrote};
 ghost use Rattle.step.specs.Runs.{RunEnd};
@@ -89,7 +86,13 @@ pub fn count_all(
     total
 }
 
-// Writes the lines of the step to the front of the result columns; answers how many.
+// How many lines a step has, and how many distinct pairs remain when redundant ones are dropped.
+pub struct Tally {
+    pub listed: usize,
+    pub kept: usize,
+}
+
+// Writes the lines of the step to the front of the result columns; answers how many, and the kept count.
 pub fn write_all(
     key: &[usize],
     size: &[usize],
@@ -105,17 +108,20 @@ pub fn write_all(
     test_name: usize,
     out_role: &mut [usize],
     out_row: &mut [usize],
-) -> usize
+) -> Tally
     requires { ⌜ Steps (tableOf (now key) (now size) (now level) (now kind) (now name) count) (askOf axis test «test_name») (now up) (now role) (now row) ⌝ }
     requires { ⌜ Fits (tableOf (now key) (now size) (now level) (now kind) (now name) count) (askOf axis test «test_name») (now role) (now row) (now «out_role») (now «out_row») ⌝ }
-    ensures { λ r. ⌜ Lists (tableOf (now (key .entry)) (now (size .entry)) (now (level .entry)) (now (kind .entry)) (now (name .entry)) count) (askOf axis test «test_name») (now (role .entry)) (now (row .entry)) (now («out_role» .entry)) (now («out_row» .entry)) r (now («out_role» .exit)) (now («out_row» .exit)) ⌝ }
+    ensures { λ r. ⌜ Lists (tableOf (now (key .entry)) (now (size .entry)) (now (level .entry)) (now (kind .entry)) (now (name .entry)) count) (askOf axis test «test_name») (now (role .entry)) (now (row .entry)) (now («out_role» .entry)) (now («out_row» .entry)) (r .listed) (now («out_role» .exit)) (now («out_row» .exit)) ⌝ }
+    ensures { λ r. ⌜ r .kept ≡ keptCount axis (now (level .entry)) (pairsOf (now (role .entry)) (now (row .entry))) ⌝ }
 {
     let want_kind = wanted_kind(test);
     let mut words = [0u64; 64];
+    let mut kept = 0;
     let mut m = 0;
     let mut i = 0;
     while i < role.len() {
         let j = run_end(role, i);
+        kept = kept + kept_of(axis, size, level, count, &row[i..j]);
         let n = one_role(
             axis,
             size,
@@ -134,28 +140,5 @@ pub fn write_all(
         m = m + n;
         i = j;
     }
-    m
-}
-
-// How many distinct pairs remain when redundant ones are dropped.
-pub fn kept_all(
-    axis: usize,
-    size: &[usize],
-    level: &[usize],
-    count: usize,
-    role: &[usize],
-    row: &[usize],
-) -> usize
-    requires { ⌜ Shape (now size) (now level) count ⌝ }
-    requires { ⌜ pairCheck (now role) (now row) count ≡ Passed ⌝ }
-    ensures { λ r. ⌜ r ≡ keptCount axis (now (level .entry)) (pairsOf (now (role .entry)) (now (row .entry))) ⌝ }
-{
-    let mut kept = 0;
-    let mut i = 0;
-    while i < role.len() {
-        let j = run_end(role, i);
-        kept = kept + kept_of(axis, size, level, count, &row[i..j]);
-        i = j;
-    }
-    kept
+    Tally { listed: m, kept }
 }

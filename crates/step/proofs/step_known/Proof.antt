@@ -24,15 +24,10 @@ enum-known-fitting c = search needs
 enum-told : tie.Need-enum-told
 enum-told c = search needs
 
-kept-all-requires : tie.Need-kept-all-requires
-kept-all-requires c κs =
-    let known = c .before .before .before .before .before .before .before .before .before .before .before .before .before .before .before .before .pre in
-    (sound-shape _ (known .sound), known .pairs)
-
 write-all-requires : tie.Need-write-all-requires
 unfolding roomCheck
 write-all-requires c κs =
-    let told = c .before .before .before .before in
+    let told = c .before .before .before in
     let known = told .before .before .before .before .before .before .before .before .before .before .before .before .before .before .before .before .pre in
     let room = rw (told .before .before .before .smaller .ensures) at (told .before .before .check-room .ensures) in (
       record { sound = known .sound; pairs = known .pairs; asked = known .asked; parents = told .before .before .before .before .before .parents-for .ensures },
@@ -54,10 +49,10 @@ same-length-2 c = search needs
 returns-2 : tie.Need-returns-2
 unfolding roomCheck
 returns-2 c =
-    let told = c .before .before .before .before .before .before .before .before .before in
+    let told = c .before .before .before .before .before .before .before .before in
     let room = rw (told .before .before .before .smaller .ensures) at (told .before .before .check-room .ensures) in
     leaves-listed _ _ _ _ _ _ (told .before .before .before .before .before .before .before .before .before .before .before .before .before .before .before .before .pre) (sym room ∙ told .enum-told .given .1)
-    (c .before .before .before .before .write-all .ensures) (c .before .before .before .before .before .before .before .before .kept-all .ensures)
+    (c .before .before .before .before .write-all .ensures .0) (c .before .before .before .before .write-all .ensures .1)
 
 pub step-known-spec : {M : Type 1} → statement M
 step-known-spec =
@@ -68,7 +63,6 @@ step-known-spec =
     check-room-requires
     enum-known-fitting
     enum-told
-    kept-all-requires
     write-all-requires
     returns
     same-length

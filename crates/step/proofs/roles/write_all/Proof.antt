@@ -1,34 +1,74 @@
--- `step::roles::write_all` meets its contract. The lines of the roles before place i stand in the result columns.
--- Assumes nothing.
+-- `step::roles::write_all` meets its contract. The lines of the roles before place i stand in the result columns, and their
+-- kept pairs are counted. Assumes nothing.
 use Prim.Native.Nat.{ℕ, _-_}
 use mathlib.Core.Path.{sym}
 use native.Mathlib.Omega.{arith}
 use lib.ListN.{length, replicate}
 use Rattle.tree.specs.Table.{tableOf}
+use Rattle.tree.proofs.SoundLaws.{sound-shape}
 use Rattle.step.specs.Steps.{askOf}
 use Rattle.step.proofs.RowSetLaws.{blank-zeros}
 use Rattle.step.proofs.CountedLaws.{pairs-fit}
-use Rattle.step.proofs.WrittenLaws.{Written, written-none, written-roles, written-rows, written-start, written-starts, written-asks, written-room, written-step, written-more, written-done}
+use Rattle.step.proofs.WrittenLaws.{Written, written-none, written-roles, written-rows, written-start}
+use Rattle.step.proofs.WrittenLaws.{written-starts, written-asks, written-room, written-step, written-more, written-done}
+use Rattle.step.proofs.KeptRunLaws.{Keeping, keeping-none, keeping-asks, run-most, keeping-more, keeping-done}
 use borrow.Author.Needs.{needs}
 use Rattle.step.proofs.roles.write_all.Statement.{statement}
 use Rattle.step.proofs.roles.write_all.Tie as tie
 
 abbrev Inv-loop : tie.InvT-loop
-Inv-loop key size level kind name count up role row axis test test-name out-role₀ out-row₀ want-kind words₀ m₀ i₀ out-role out-row words m i =
+Inv-loop key size level kind name count up role row axis test test-name out-role₀ out-row₀ want-kind words₀ kept₀ m₀ i₀ out-role out-row words kept m i =
     Written (tableOf key size level kind name count) (askOf axis test test-name) role row out-role₀ out-row₀ words out-role out-row m i
+    × Keeping axis level role row kept i
 
 abbrev μ-loop : tie.MeasureT-loop
-μ-loop key size level kind name count up role row axis test test-name out-role₀ out-row₀ want-kind words₀ m₀ i₀ out-role out-row words m i =
+μ-loop key size level kind name count up role row axis test test-name out-role₀ out-row₀ want-kind words₀ kept₀ m₀ i₀ out-role out-row words kept m i =
     length role - i
 
 wanted-kind-requires : tie.Need-wanted-kind-requires Inv-loop μ-loop
 wanted-kind-requires c κs = search needs
 
 loop-holds : tie.Need-loop-holds Inv-loop μ-loop
-loop-holds c = written-none _ _ _ _ _ _ _ (c .before .before .before .before .before .before .before .before .before .before .pre .0) (c .before .before .before .before .before .before .before .before .before .before .pre .1) (replicate {A = ℕ} 64 0) blank-zeros
+loop-holds c =
+    let pre = c .before .before .before .before .before .before .before .before .before .before .pre in (
+      written-none _ _ _ _ _ _ _ (pre .0) (pre .1) (replicate {A = ℕ} 64 0) blank-zeros,
+      keeping-none _ _ _ _ _ _ (sound-shape _ (pre .0 .sound)) (pairs-fit _ _ _ _ _ (pre .0)),
+    )
 
 run-end-requires : tie.Need-run-end-requires Inv-loop μ-loop
 run-end-requires c κs = search needs
+
+mul-kept-of : tie.Need-mul-kept-of Inv-loop μ-loop
+mul-kept-of c = search needs
+
+sub-kept-of : tie.Need-sub-kept-of Inv-loop μ-loop
+sub-kept-of c = search needs
+
+part-kept-of-start : tie.Need-part-kept-of-start Inv-loop μ-loop
+part-kept-of-start c = search needs
+
+part-kept-of-end : tie.Need-part-kept-of-end Inv-loop μ-loop
+part-kept-of-end c =
+    omega (arith, c .run-end .ensures .within, pairs-fit _ _ _ _ _ (c .before .before .before .before .before .before .before .before .before .before .before .before .before .pre .0) .even)
+
+kept-of-requires : tie.Need-kept-of-requires Inv-loop μ-loop
+kept-of-requires c κs =
+    let turn = c .before in
+    keeping-asks (turn .before .before .before .before .before .before .before .before .before .before .before .before .before .args .axis) _ _ _ _ _ (sound-shape _ (turn .before .before .before .before .before .before .before .before .before .before .before .before .before .pre .0 .sound)) (pairs-fit _ _ _ _ _ (turn .before .before .before .before .before .before .before .before .before .before .before .before .before .pre .0)) _ _ (turn .run-end .ensures)
+
+add-kept : tie.Need-add-kept Inv-loop μ-loop
+add-kept c =
+    let turn = c .before .before in
+    let start = turn .before .before .before .before .before .before .before .before .before .before .before .before .before in
+    omega (
+      arith,
+      turn .before .before .loop .inv .1 .small,
+      turn .run-end .ensures .within,
+      turn .run-end .ensures .after,
+      c .kept-of .ensures,
+      run-most (start .args .axis) _ (start .args .level .now) _ _ _ (sound-shape _ (turn .before .before .before .before .before .before .before .before .before .before .before .before .before .pre .0 .sound)) (pairs-fit _ _ _ _ _ (turn .before .before .before .before .before .before .before .before .before .before .before .before .before .pre .0)) _ _ (turn .run-end .ensures),
+      pairs-fit _ _ _ _ _ (start .pre .0) .few,
+    )
 
 mul-one-role : tie.Need-mul-one-role Inv-loop μ-loop
 mul-one-role c = search needs
@@ -41,95 +81,106 @@ part-one-role-start c = search needs
 
 part-one-role-end : tie.Need-part-one-role-end Inv-loop μ-loop
 part-one-role-end c =
-    omega (arith, c .run-end .ensures .within, pairs-fit _ _ _ _ _ (c .before .before .before .before .before .before .before .before .before .before .before .before .before .pre .0) .even)
+    let turn = c .before .before in
+    omega (arith, turn .run-end .ensures .within, pairs-fit _ _ _ _ _ (turn .before .before .before .before .before .before .before .before .before .before .before .before .before .pre .0) .even)
 
 mul-one-role-2 : tie.Need-mul-one-role-2 Inv-loop μ-loop
 mul-one-role-2 c =
-    let turn = c .before .before in
-    omega (arith, turn .before .before .loop .inv .small, turn .before .loop-test .taken, pairs-fit _ _ _ _ _ (turn .before .before .before .before .before .before .before .before .before .before .before .before .before .pre .0) .few)
+    let turn = c .before .before .before .before in
+    omega (arith, turn .before .before .loop .inv .0 .small, turn .before .loop-test .taken, pairs-fit _ _ _ _ _ (turn .before .before .before .before .before .before .before .before .before .before .before .before .before .pre .0) .few)
 
 sub-one-role-2 : tie.Need-sub-one-role-2 Inv-loop μ-loop
 sub-one-role-2 c =
-    let turn = c .before .before in
-    omega (arith, written-start _ _ _ _ _ _ _ (turn .before .before .before .before .before .before .before .before .before .before .before .before .before .pre .0) (turn .before .before .before .before .before .before .before .before .before .before .before .before .before .pre .1) (turn .before .before .loop .inv) (turn .run-end .ensures))
+    let turn = c .before .before .before .before in
+    omega (arith, written-start _ _ _ _ _ _ _ (turn .before .before .before .before .before .before .before .before .before .before .before .before .before .pre .0) (turn .before .before .before .before .before .before .before .before .before .before .before .before .before .pre .1) (turn .before .before .loop .inv .0) (turn .run-end .ensures))
 
 part-one-role-start-2 : tie.Need-part-one-role-start-2 Inv-loop μ-loop
 part-one-role-start-2 c =
-    let turn = c .before .before in
-    omega (arith, written-start _ _ _ _ _ _ _ (turn .before .before .before .before .before .before .before .before .before .before .before .before .before .pre .0) (turn .before .before .before .before .before .before .before .before .before .before .before .before .before .pre .1) (turn .before .before .loop .inv) (turn .run-end .ensures))
+    let turn = c .before .before .before .before in
+    omega (arith, written-start _ _ _ _ _ _ _ (turn .before .before .before .before .before .before .before .before .before .before .before .before .before .pre .0) (turn .before .before .before .before .before .before .before .before .before .before .before .before .before .pre .1) (turn .before .before .loop .inv .0) (turn .run-end .ensures))
 
 part-one-role-end-2 : tie.Need-part-one-role-end-2 Inv-loop μ-loop
 part-one-role-end-2 c = search needs
 
 one-role-requires : tie.Need-one-role-requires Inv-loop μ-loop
 one-role-requires c κs =
-    let turn = c .before .before .before in
+    let turn = c .before .before .before .before .before in
     rw (turn .before .before .before .wanted-kind .ensures)
-    (written-asks _ _ _ _ _ _ _ (turn .before .before .before .before .before .before .before .before .before .before .before .before .before .pre .0) (turn .before .before .before .before .before .before .before .before .before .before .before .before .before .pre .1) (turn .before .before .loop .inv) (turn .run-end .ensures))
+    (written-asks _ _ _ _ _ _ _ (turn .before .before .before .before .before .before .before .before .before .before .before .before .before .pre .0) (turn .before .before .before .before .before .before .before .before .before .before .before .before .before .pre .1) (turn .before .before .loop .inv .0) (turn .run-end .ensures))
 
 mul-fill : tie.Need-mul-fill Inv-loop μ-loop
 mul-fill c =
-    let turn = c .before .before .before .before .before .before in
-    omega (arith, turn .before .before .loop .inv .small, turn .before .loop-test .taken, pairs-fit _ _ _ _ _ (turn .before .before .before .before .before .before .before .before .before .before .before .before .before .pre .0) .few)
+    let turn = c .before .before .before .before .before .before .before .before in
+    omega (arith, turn .before .before .loop .inv .0 .small, turn .before .loop-test .taken, pairs-fit _ _ _ _ _ (turn .before .before .before .before .before .before .before .before .before .before .before .before .before .pre .0) .few)
 
 sub-fill : tie.Need-sub-fill Inv-loop μ-loop
 sub-fill c =
-    let turn = c .before .before .before .before .before .before in
-    omega (arith, written-starts _ _ _ _ _ _ _ (turn .before .before .before .before .before .before .before .before .before .before .before .before .before .pre .0) (turn .before .before .before .before .before .before .before .before .before .before .before .before .before .pre .1) (turn .before .before .loop .inv) (turn .run-end .ensures))
+    let turn = c .before .before .before .before .before .before .before .before in
+    omega (arith, written-starts _ _ _ _ _ _ _ (turn .before .before .before .before .before .before .before .before .before .before .before .before .before .pre .0) (turn .before .before .before .before .before .before .before .before .before .before .before .before .before .pre .1) (turn .before .before .loop .inv .0) (turn .run-end .ensures))
 
 part-fill-start : tie.Need-part-fill-start Inv-loop μ-loop
 part-fill-start c =
-    let turn = c .before .before .before .before .before .before in
-    omega (arith, written-starts _ _ _ _ _ _ _ (turn .before .before .before .before .before .before .before .before .before .before .before .before .before .pre .0) (turn .before .before .before .before .before .before .before .before .before .before .before .before .before .pre .1) (turn .before .before .loop .inv) (turn .run-end .ensures))
+    let turn = c .before .before .before .before .before .before .before .before in
+    omega (arith, written-starts _ _ _ _ _ _ _ (turn .before .before .before .before .before .before .before .before .before .before .before .before .before .pre .0) (turn .before .before .before .before .before .before .before .before .before .before .before .before .before .pre .1) (turn .before .before .loop .inv .0) (turn .run-end .ensures))
 
 part-fill-end : tie.Need-part-fill-end Inv-loop μ-loop
 part-fill-end c = search needs
 
 mul-fill-2 : tie.Need-mul-fill-2 Inv-loop μ-loop
 mul-fill-2 c =
-    let turn = c .before .before .before .before .before .before .before in
-    omega (arith, turn .before .before .loop .inv .small, turn .before .loop-test .taken, pairs-fit _ _ _ _ _ (turn .before .before .before .before .before .before .before .before .before .before .before .before .before .pre .0) .few)
+    let turn = c .before .before .before .before .before .before .before .before .before in
+    omega (arith, turn .before .before .loop .inv .0 .small, turn .before .loop-test .taken, pairs-fit _ _ _ _ _ (turn .before .before .before .before .before .before .before .before .before .before .before .before .before .pre .0) .few)
 
 shared-slice-read-fill : tie.Need-shared-slice-read-fill Inv-loop μ-loop
 shared-slice-read-fill c = search needs
 
 fill-requires : tie.Need-fill-requires Inv-loop μ-loop
 fill-requires c κs =
-    let turn = c .before .before .before .before .before .before .before .before in
+    let turn = c .before .before .before .before .before .before .before .before .before .before in
     let done = rw (turn .before .before .before .wanted-kind .ensures) at (c .before .before .before .before .one-role .ensures) in
-    written-room _ _ _ _ _ _ _ (turn .before .before .before .before .before .before .before .before .before .before .before .before .before .pre .0) (turn .before .before .before .before .before .before .before .before .before .before .before .before .before .pre .1) (turn .before .before .loop .inv) (turn .run-end .ensures) done
+    written-room _ _ _ _ _ _ _ (turn .before .before .before .before .before .before .before .before .before .before .before .before .before .pre .0) (turn .before .before .before .before .before .before .before .before .before .before .before .before .before .pre .1) (turn .before .before .loop .inv .0) (turn .run-end .ensures) done
 
 add-m : tie.Need-add-m Inv-loop μ-loop
 add-m c =
-    let turn = c .before .before .before .before .before .before .before .before .before .before .before in
+    let turn = c .before .before .before .before .before .before .before .before .before .before .before .before .before in
     let done = rw (turn .before .before .before .wanted-kind .ensures) at (c .before .before .before .before .before .before .before .one-role .ensures) in
     omega (
       arith,
-      written-step _ _ _ _ _ _ _ (turn .before .before .before .before .before .before .before .before .before .before .before .before .before .pre .0) (turn .before .before .before .before .before .before .before .before .before .before .before .before .before .pre .1) (turn .before .before .loop .inv) (turn .run-end .ensures) done,
-      turn .before .before .loop .inv .small,
+      written-step _ _ _ _ _ _ _ (turn .before .before .before .before .before .before .before .before .before .before .before .before .before .pre .0) (turn .before .before .before .before .before .before .before .before .before .before .before .before .before .pre .1) (turn .before .before .loop .inv .0) (turn .run-end .ensures) done,
+      turn .before .before .loop .inv .0 .small,
       turn .before .loop-test .taken,
       pairs-fit _ _ _ _ _ (turn .before .before .before .before .before .before .before .before .before .before .before .before .before .pre .0) .few,
     )
 
 loop-less : tie.Need-loop-less Inv-loop μ-loop
 loop-less c =
-    let turn = c .before .before .before .before .before .before .before .before .before .before .before in
+    let turn = c .before .before .before .before .before .before .before .before .before .before .before .before .before in
     omega (arith, turn .run-end .ensures .after, turn .run-end .ensures .within)
 
 loop-again : tie.Need-loop-again Inv-loop μ-loop
 loop-again c =
-    let turn = c .before .before .before .before .before .before .before .before .before .before .before in
-    let done = rw (turn .before .before .before .wanted-kind .ensures) at (c .before .before .before .before .before .before .before .one-role .ensures) in
-    written-more _ _ _ _ _ _ _ (turn .before .before .before .before .before .before .before .before .before .before .before .before .before .pre .0) (turn .before .before .before .before .before .before .before .before .before .before .before .before .before .pre .1) (turn .before .before .loop .inv) (turn .run-end .ensures) done (c .before .before .fill .ensures)
+    let turn = c .before .before .before .before .before .before .before .before .before .before .before .before .before in
+    let done = rw (turn .before .before .before .wanted-kind .ensures) at (c .before .before .before .before .before .before .before .one-role .ensures) in (
+      written-more _ _ _ _ _ _ _ (turn .before .before .before .before .before .before .before .before .before .before .before .before .before .pre .0) (turn .before .before .before .before .before .before .before .before .before .before .before .before .before .pre .1) (turn .before .before .loop .inv .0) (turn .run-end .ensures) done (c .before .before .fill .ensures),
+      keeping-more _ _ _ _ _ _ (sound-shape _ (turn .before .before .before .before .before .before .before .before .before .before .before .before .before .pre .0 .sound)) (pairs-fit _ _ _ _ _ (turn .before .before .before .before .before .before .before .before .before .before .before .before .before .pre .0)) (turn .before .before .loop .inv .1) (turn .run-end .ensures) (c .before .before .before .before .before .before .before .before .before .before .before .kept-of .ensures),
+    )
 
 same-length : tie.Need-same-length Inv-loop μ-loop
-same-length c = written-roles _ _ _ _ _ _ _ (c .before .before .before .before .before .before .before .before .before .before .before .before .pre .0) (c .before .before .before .before .before .before .before .before .before .before .before .before .pre .1) (c .before .loop .inv)
+same-length c =
+    let pre = c .before .before .before .before .before .before .before .before .before .before .before .before .pre in
+    written-roles _ _ _ _ _ _ _ (pre .0) (pre .1) (c .before .loop .inv .0)
 
 same-length-2 : tie.Need-same-length-2 Inv-loop μ-loop
-same-length-2 c = written-rows _ _ _ _ _ _ _ (c .before .before .before .before .before .before .before .before .before .before .before .before .pre .0) (c .before .before .before .before .before .before .before .before .before .before .before .before .pre .1) (c .before .loop .inv)
+same-length-2 c =
+    let pre = c .before .before .before .before .before .before .before .before .before .before .before .before .pre in
+    written-rows _ _ _ _ _ _ _ (pre .0) (pre .1) (c .before .loop .inv .0)
 
 returns : tie.Need-returns Inv-loop μ-loop
-returns c = written-done _ _ _ _ _ _ _ (c .before .before .before .before .before .before .before .before .before .before .before .before .pre .0) (c .before .before .before .before .before .before .before .before .before .before .before .before .pre .1) (c .before .loop .inv) (c .loop-test .left)
+returns c =
+    let pre = c .before .before .before .before .before .before .before .before .before .before .before .before .pre in (
+      written-done _ _ _ _ _ _ _ (pre .0) (pre .1) (c .before .loop .inv .0) (c .loop-test .left),
+      keeping-done _ _ _ _ _ _ (sound-shape _ (pre .0 .sound)) (pairs-fit _ _ _ _ _ (pre .0)) (c .before .loop .inv .1) (c .loop-test .left),
+    )
 
 pub write-all-spec : {M : Type 1} → statement M
 write-all-spec =
@@ -140,6 +191,12 @@ write-all-spec =
     wanted-kind-requires
     loop-holds
     run-end-requires
+    mul-kept-of
+    sub-kept-of
+    part-kept-of-start
+    part-kept-of-end
+    kept-of-requires
+    add-kept
     mul-one-role
     sub-one-role
     part-one-role-start
