@@ -1,5 +1,6 @@
 -- The walk along a chain finds a repeated key: `walk-start`, `walk-step`, `walk-less`, and its ends `fresh-true`, `fresh-false`.
 -- The chains grow by a row: `chained-none`, `chained-more`. The test of a key: `key-zero`, `key-again`, `key-good`.
+-- The test of a piece's key: `clash-taken`, `clash-none`.
 -- Assumes nothing.
 use mathlib.Core.Path.{_≡_, refl, sym, ap, _∙_}
 use mathlib.Core.Logic.{_⊎_, inl, inr}
@@ -9,14 +10,14 @@ use Prim.Native.Nat.{ℕ, zero, suc, _+_, _-_, _<_, _≤_}
 use native.Mathlib.Nat.{le-refl, le-of-suc-le-suc, eq-or-lt-of-le, not-suc-le-zero}
 use native.Mathlib.Numerals.{add-one}
 use native.Mathlib.Omega.{arith}
-use borrow.Author.Tests.{eqb-true, eqb-false, eq-eqb, ne-eqb, ltb-true, ltb-false}
+use borrow.Author.Tests.{eqb-true, eqb-false, eq-eqb, ne-eqb, ltb-true, ltb-false, lt-ltb, le-ltb}
 use lib.Dec.{eqb, ltb}
 use lib.ListN.{length, getD, set, replicate, getD-replicate}
 use lib.Seq.{getD-set-same, getD-set-other}
 use Rattle.tree.specs.Search.{least, nearest}
 use Rattle.tree.specs.Table.{at}
 use Rattle.tree.specs.Sound.{rowOf, keyOk}
-use Rattle.tree.proofs.SearchLaws.{least-none, least-hit-le, nearest-le, nearest-skip, nearest-in}
+use Rattle.tree.proofs.SearchLaws.{least-none, least-le, least-hit-le, nearest-le, nearest-skip, nearest-in}
 use Rattle.table.specs.Chain.{bucketOf, lastIn, Chained}
 
 pub bucket-lt : (x : ℕ) → bucketOf x < 16384
@@ -130,3 +131,13 @@ key-again key i n e = simp (ne-eqb _ _ n, e)
 pub key-good : (key : List ℕ) (i : ℕ) → (at key i ≡ 0 → ⊥) → eqb (rowOf key i (at key i)) i ≡ true → not (keyOk key i) ≡ false
 unfolding keyOk
 key-good key i n e = simp (ne-eqb _ _ n, e)
+
+-- a key that is not fresh among the first n rows is one of theirs
+pub clash-taken : (key : List ℕ) (n x : ℕ) → eqb (rowOf key n x) n ≡ false → ltb (rowOf key n x) n ≡ true
+unfolding rowOf
+clash-taken key n x e =
+    let q : least (λ k. eqb (at key k) x) n ≡ n → ⊥ = eqb-false _ _ e in
+    lt-ltb (least (λ k. eqb (at key k) x) n) n (omega (arith, least-le (λ k. eqb (at key k) x) n))
+
+pub clash-none : (key : List ℕ) (n x : ℕ) → eqb (rowOf key n x) n ≡ true → ltb (rowOf key n x) n ≡ false
+clash-none key n x e = le-ltb (rowOf key n x) n (omega (arith, eqb-true (rowOf key n x) n e))

@@ -1,10 +1,11 @@
-// The row of a key, and the least row whose key is bad, by rows chained in buckets.
+// The row of a key, the least row whose key is bad, and the least row of a piece whose key is taken, by rows chained in
+// buckets.
 ghost use mathlib.Core.Path.{_≡_};
 ghost use Prim.Native.Nat.{_<_, _≤_};
 ghost use lib.ListN.{length};
 ghost use lib.Dec.{eqb};
 ghost use Rattle.tree.specs.Sound.{rowOf};
-ghost use Rattle.table.specs.First.{firstKey};
+ghost use Rattle.table.specs.First.{firstKey, firstClash};
 ghost use Rattle.table.specs.Chain.{bucketOf, Chained};
 
 // The least of the first n rows with the key x, or n.
@@ -70,4 +71,67 @@ pub fn first_key(key: &[usize], n: usize) -> usize
         i += 1;
     }
     i
+}
+
+// Chains the first n rows, without a test of their keys.
+pub fn chain(key: &[usize], heads: &mut [u16; 16384], next: &mut [u16; 4096], n: usize)
+    requires { ⌜ (n ≤ 4096) × (n ≤ length (now key)) ⌝ }
+    requires { ⌜ (length (now heads) ≡ 16384) × (length (now next) ≡ 4096) ⌝ }
+    requires { ⌜ Chained (now key) (now heads) (now next) 0 ⌝ }
+    ensures { λ _. ⌜ Chained (now (key .entry)) (now (heads .exit)) (now (next .exit)) n ⌝ }
+{
+    let mut i = 0;
+    while i < n {
+        let own = bucket(key[i]);
+        next[i] = heads[own];
+        heads[own] = (i + 1) as u16;
+        i += 1;
+    }
+}
+
+// The least of the first m rows of a piece whose key one of the first n rows has, or m: a search for each key.
+pub fn clash_by_rows(key: &[usize], n: usize, piece: &[usize], m: usize) -> usize
+    requires { ⌜ n ≤ length (now key) ⌝ }
+    requires { ⌜ m ≤ length (now piece) ⌝ }
+    ensures { λ r. ⌜ r ≡ firstClash (now (key .entry)) n (now (piece .entry)) m ⌝ }
+{
+    let mut i = 0;
+    while i < m {
+        if row_of(key, n, piece[i]) < n {
+            return i;
+        }
+        i += 1;
+    }
+    i
+}
+
+// The same by the chains of the first n rows, in time linear in both.
+pub fn clash_by_chains(key: &[usize], n: usize, piece: &[usize], m: usize) -> usize
+    requires { ⌜ (n ≤ 4096) × (n ≤ length (now key)) ⌝ }
+    requires { ⌜ m ≤ length (now piece) ⌝ }
+    ensures { λ r. ⌜ r ≡ firstClash (now (key .entry)) n (now (piece .entry)) m ⌝ }
+{
+    let mut heads = [0u16; 16384];
+    let mut next = [0u16; 4096];
+    chain(key, &mut heads, &mut next, n);
+    let mut i = 0;
+    while i < m {
+        if !fresh(key, &heads, &next, n, piece[i]) {
+            return i;
+        }
+        i += 1;
+    }
+    i
+}
+
+// The same by the way that is faster for the piece.
+pub fn first_clash(key: &[usize], n: usize, piece: &[usize], m: usize) -> usize
+    requires { ⌜ (n ≤ 4096) × (n ≤ length (now key)) ⌝ }
+    requires { ⌜ m ≤ length (now piece) ⌝ }
+    ensures { λ r. ⌜ r ≡ firstClash (now (key .entry)) n (now (piece .entry)) m ⌝ }
+{
+    if m <= 4 {
+        return clash_by_rows(key, n, piece, m);
+    }
+    clash_by_chains(key, n, piece, m)
 }

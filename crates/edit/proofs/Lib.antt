@@ -1,0 +1,13 @@
+pub mod MoveLaws
+pub mod OutcomeLaws
+pub mod SizePassLaws
+pub mod MovedLaws
+pub mod DeleteLaws
+pub mod PieceLaws
+pub mod InsertLaws
+pub mod LeavesLaws
+pub mod ActLaws
+pub mod FoundAgain
+pub mod TurnLaws
+pub mod Demand3
+pub mod FarmPair

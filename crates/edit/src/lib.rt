@@ -1,0 +1,114 @@
+// Insertion, deletion and rename by key: document 01, "Finding and editing by key". Each call checks the table, finds
+// the row of its key and hands over to the edit at that row; a refusal leaves all columns as they were.
+ghost use Rattle.tree.specs.Table.{tableOf};
+ghost use Rattle.tree.specs.Outcome.{insertOutcome, deleteOutcome, renameOutcome};
+ghost use Rattle.edit.specs.Leaves.{Leaves};
+
+pub mod mover; // mover.rt: rows that move in one column
+pub mod sizes; // sizes.rt: the sizes of the rows before an edited row
+pub mod moved; // moved.rt: the answer, with its signed move
+pub mod renaming; // renaming.rt: a rename at a row
+pub mod deletion; // deletion.rt: a deletion at a row
+pub mod insertion; // insertion.rt: an insertion at a row
+
+use tree::Checked;
+use tree::Edited;
+use tree::Found;
+
+// A piece becomes the last child of the row of a key, or refusal 1, 2, 9, 10, 11, 12, 13 or 14.
+pub fn insert(
+    key: &mut [usize],
+    size: &mut [usize],
+    level: &mut [usize],
+    kind: &mut [usize],
+    name: &mut [usize],
+    count: usize,
+    parent: usize,
+    p_key: &[usize],
+    p_size: &[usize],
+    p_level: &[usize],
+    p_kind: &[usize],
+    p_name: &[usize],
+    p_count: usize,
+) -> Edited
+    ensures { λ r. ⌜ Leaves (insertOutcome
+        (tableOf (now (key .entry)) (now (size .entry)) (now (level .entry)) (now (kind .entry))
+        (now (name .entry)) count) parent
+        (tableOf (now («p_key» .entry)) (now («p_size» .entry)) (now («p_level» .entry)) (now («p_kind» .entry))
+        (now («p_name» .entry)) «p_count»)) r
+        (now (key .exit)) (now (size .exit)) (now (level .exit)) (now (kind .exit)) (now (name .exit)) ⌝ }
+{
+    let checked = table::check(key, size, level, kind, name, count);
+    if let Checked::Refused(number, place) = checked {
+        return Edited::Refused(number, place);
+    }
+    let Found::At(row) = table::locate(key, count, parent) else {
+        return Edited::Refused(9, 0);
+    };
+    insertion::insert_at(
+        key,
+        size,
+        level,
+        kind,
+        name,
+        count,
+        row,
+        p_key,
+        p_size,
+        p_level,
+        p_kind,
+        p_name,
+        p_count,
+    )
+}
+
+// The row of a key goes with its descendants, or refusal 1, 2, 9 or 15.
+pub fn delete(
+    key: &mut [usize],
+    size: &mut [usize],
+    level: &mut [usize],
+    kind: &mut [usize],
+    name: &mut [usize],
+    count: usize,
+    wanted: usize,
+) -> Edited
+    ensures { λ r. ⌜ Leaves (deleteOutcome
+        (tableOf (now (key .entry)) (now (size .entry)) (now (level .entry)) (now (kind .entry))
+        (now (name .entry)) count) wanted) r
+        (now (key .exit)) (now (size .exit)) (now (level .exit)) (now (kind .exit)) (now (name .exit)) ⌝ }
+{
+    let checked = table::check(key, size, level, kind, name, count);
+    if let Checked::Refused(number, place) = checked {
+        return Edited::Refused(number, place);
+    }
+    let Found::At(row) = table::locate(key, count, wanted) else {
+        return Edited::Refused(9, 0);
+    };
+    deletion::delete_at(key, size, level, kind, name, count, row)
+}
+
+// The row of a key gets a new name, or refusal 1, 2, 9 or 16.
+pub fn rename(
+    key: &mut [usize],
+    size: &mut [usize],
+    level: &mut [usize],
+    kind: &mut [usize],
+    name: &mut [usize],
+    count: usize,
+    wanted: usize,
+    new_name: usize,
+) -> Edited
+    ensures { λ r. ⌜ Leaves (renameOutcome
+        (tableOf (now (key .entry)) (now (size .entry)) (now (level .entry)) (now (kind .entry))
+        (now (name .entry)) count) wanted «new_name») r
+        (now (key .exit)) (now (size .exit)) (now (level .exit)) (now (kind .exit)) (now (name .exit)) ⌝ }
+{
+    let checked = table::check(key, size, level, kind, name, count);
+    if let Checked::Refused(number, place) = checked {
+        return Edited::Refused(number, place);
+    }
+    let Found::At(row) = table::locate(key, count, wanted) else {
+        return Edited::Refused(9, 0);
+    };
+    renaming::rename_at(key, size, level, kind, name, count, row, new_name)
+}
