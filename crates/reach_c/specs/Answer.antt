@@ -4,13 +4,15 @@ use mathlib.Core.Path.{_≡_}
 use mathlib.Core.List.{List}
 use Prim.Native.Nat.{ℕ}
 use lib.IntN.{ℤ, pos}
-use Rattle.tree.specs.Outcome.{StepOutcome}
+use Rattle.tree.specs.Outcome.{StepOutcome, EditOutcome}
 use Rattle.tree.specs.declared.Checked.{Checked}
 use Rattle.tree.specs.declared.Checked.the-variants.{Passed, Refused}
 use Rattle.tree.specs.declared.Found.{Found}
 use Rattle.tree.specs.declared.Found.the-variants.{At, Refused as NotFound}
 use Rattle.tree.specs.declared.Stepped.{Stepped}
 use Rattle.tree.specs.declared.Stepped.the-variants.{Listed, Refused as NotListed}
+use Rattle.tree.specs.declared.Edited.{Edited}
+use Rattle.tree.specs.declared.Edited.the-variants.{Made, Refused as NotMade}
 use Rattle.reach_c.specs.declared.answer.Answer.{Answer}
 
 -- accepted, with two numbers and a move
@@ -40,3 +42,17 @@ pub record StepLeaves (o : StepOutcome) (answer : Answer) (role row : List ℕ) 
   pub answers : answer ≡ stepAnswer (o .answer)
   pub role-is : role ≡ o .role
   pub row-is : row ≡ o .row
+
+-- the new count comes first, then the first moved row, and the move
+unfoldable pub editAnswer : Edited → Answer
+editAnswer (Made d) = accepted (d .count) (d .first) (d .moved)
+editAnswer (NotMade n p) = refused n p
+
+-- an edit's answer as C's struct, and all five columns, are those of the outcome
+pub record EditLeaves (o : EditOutcome) (answer : Answer) (key size level kind name : List ℕ) : Type 0 where
+  pub answers : answer ≡ editAnswer (o .answer)
+  pub key-is : key ≡ o .table .key
+  pub size-is : size ≡ o .table .size
+  pub level-is : level ≡ o .table .level
+  pub kind-is : kind ≡ o .table .kind
+  pub name-is : name ≡ o .table .name

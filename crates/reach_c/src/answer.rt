@@ -1,7 +1,8 @@
 // The library's answers as one struct for C. Refusal 0 is acceptance; what an answer does not use is 0.
 ghost use mathlib.Core.Path.{_≡_};
-ghost use Rattle.reach_c.specs.Answer.{accepted, refused, checkAnswer, findAnswer, stepAnswer};
+ghost use Rattle.reach_c.specs.Answer.{accepted, refused, checkAnswer, findAnswer, stepAnswer, editAnswer};
 use tree::Checked;
+use tree::Edited;
 use tree::Found;
 use tree::Stepped;
 
@@ -67,5 +68,21 @@ pub fn of_step(stepped: Stepped) -> Answer
     match stepped {
         Stepped::Listed(results, kept) => accept(results, kept, 0),
         Stepped::Refused(number, place) => refuse(number, place),
+    }
+}
+
+// What an edit answers: the new count first, then the first moved row, and the move.
+pub fn of_edit(edited: Edited) -> Answer
+    ensures { λ r. ⌜ r ≡ editAnswer edited ⌝ }
+{
+    match edited {
+        Edited::Made(done) => Answer {
+            refusal: 0,
+            place: 0,
+            first: done.count,
+            second: done.first,
+            moved: done.moved,
+        },
+        Edited::Refused(number, place) => refuse(number, place),
     }
 }

@@ -2,8 +2,9 @@
 ghost use mathlib.Core.Path.{_≡_};
 ghost use Rattle.tree.specs.Table.{tableOf};
 ghost use Rattle.tree.specs.Outcome.{checkOutcome, findOutcome, stepOutcome};
+ghost use Rattle.tree.specs.Outcome.{insertOutcome, deleteOutcome, renameOutcome};
 ghost use Rattle.step.specs.Steps.{askOf};
-ghost use Rattle.reach_c.specs.Answer.{checkAnswer, findAnswer, StepLeaves};
+ghost use Rattle.reach_c.specs.Answer.{checkAnswer, findAnswer, StepLeaves, EditLeaves};
 
 pub mod answer; // answer.rt: the library's answers as one struct
 
@@ -74,4 +75,85 @@ pub extern "C" fn reach_step(
         out_role,
         out_row,
     ))
+}
+
+// The piece becomes the last child of the row of a key: the new count in first, the first moved row in second, and the move;
+// or refusal 1, 2 or 9 to 14.
+#[no_mangle]
+pub extern "C" fn reach_insert(
+    key: &mut [usize],
+    size: &mut [usize],
+    level: &mut [usize],
+    kind: &mut [usize],
+    name: &mut [usize],
+    count: usize,
+    parent: usize,
+    p_key: &[usize],
+    p_size: &[usize],
+    p_level: &[usize],
+    p_kind: &[usize],
+    p_name: &[usize],
+    p_count: usize,
+) -> Answer
+    ensures { λ r. ⌜ EditLeaves (insertOutcome
+        (tableOf (now (key .entry)) (now (size .entry)) (now (level .entry)) (now (kind .entry))
+        (now (name .entry)) count) parent
+        (tableOf (now («p_key» .entry)) (now («p_size» .entry)) (now («p_level» .entry)) (now («p_kind» .entry))
+        (now («p_name» .entry)) «p_count»)) r
+        (now (key .exit)) (now (size .exit)) (now (level .exit)) (now (kind .exit)) (now (name .exit)) ⌝ }
+{
+    answer::of_edit(edit::insert(
+        key,
+        size,
+        level,
+        kind,
+        name,
+        count,
+        parent,
+        p_key,
+        p_size,
+        p_level,
+        p_kind,
+        p_name,
+        p_count,
+    ))
+}
+
+// The row of a key goes with its descendants: answers as an insertion, or refusal 1, 2, 9 or 15.
+#[no_mangle]
+pub extern "C" fn reach_delete(
+    key: &mut [usize],
+    size: &mut [usize],
+    level: &mut [usize],
+    kind: &mut [usize],
+    name: &mut [usize],
+    count: usize,
+    wanted: usize,
+) -> Answer
+    ensures { λ r. ⌜ EditLeaves (deleteOutcome
+        (tableOf (now (key .entry)) (now (size .entry)) (now (level .entry)) (now (kind .entry))
+        (now (name .entry)) count) wanted) r
+        (now (key .exit)) (now (size .exit)) (now (level .exit)) (now (kind .exit)) (now (name .exit)) ⌝ }
+{
+    answer::of_edit(edit::delete(key, size, level, kind, name, count, wanted))
+}
+
+// The row of a key gets a new name: answers as an insertion, or refusal 1, 2, 9 or 16.
+#[no_mangle]
+pub extern "C" fn reach_rename(
+    key: &mut [usize],
+    size: &mut [usize],
+    level: &mut [usize],
+    kind: &mut [usize],
+    name: &mut [usize],
+    count: usize,
+    wanted: usize,
+    new_name: usize,
+) -> Answer
+    ensures { λ r. ⌜ EditLeaves (renameOutcome
+        (tableOf (now (key .entry)) (now (size .entry)) (now (level .entry)) (now (kind .entry))
+        (now (name .entry)) count) wanted «new_name») r
+        (now (key .exit)) (now (size .exit)) (now (level .exit)) (now (kind .exit)) (now (name .exit)) ⌝ }
+{
+    answer::of_edit(edit::rename(key, size, level, kind, name, count, wanted, new_name))
 }

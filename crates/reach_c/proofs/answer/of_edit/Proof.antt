@@ -1,0 +1,29 @@
+-- `reach_c::answer::of_edit` meets its contract, case by case. Assumes nothing.
+use native.Mathlib.Omega.{arith}
+use mir.Syntax.{w64}
+use mir.Facts.{toZ-ofZ}
+use Rattle.reach_c.specs.Answer.{editAnswer}
+use borrow.Author.Needs.{needs}
+use Rattle.reach_c.proofs.answer.of_edit.Statement.{statement}
+use Rattle.reach_c.proofs.answer.of_edit.Tie as tie
+
+enum-known-edited : tie.Need-enum-known-edited
+enum-known-edited c = search needs
+
+enum-known-edited-2 : tie.Need-enum-known-edited-2
+enum-known-edited-2 c = search needs
+
+refuse-requires : tie.Need-refuse-requires
+refuse-requires c κs = search needs
+
+returns : tie.Need-returns
+unfolding editAnswer
+returns c = rw (c .before .before .edited .given .1, toZ-ofZ {w = w64} {z = c .before .before .edited .given .0 .0 .moved} (record { sfits = omega (arith, c .struct-told .given .1 .1 .0) }))
+
+returns-2 : tie.Need-returns-2
+unfolding editAnswer
+returns-2 c = rw (c .before .before .edited2 .given .1) (c .refuse .ensures)
+
+pub of-edit-spec : {M : Type 1} → statement M
+of-edit-spec =
+    tie.close (tie.spec enum-known-edited enum-known-edited-2 refuse-requires returns returns-2)
