@@ -11,7 +11,7 @@ use Rattle.tree.specs.Tree.{parent, above, ancestor}
 use Rattle.tree.specs.Edit.{insertDone, deleteDone}
 use Rattle.tree.specs.Refusal.{given, givenAt, next, tableCheck, keyCheck, badPiece, insertCheck, deleteCheck}
 use Rattle.tree.specs.Outcome.{editIf, editCheck, insertOutcome, deleteOutcome}
-use Rattle.tree.proofs.Farm.{farm, leaf}
+use Rattle.tree.proofs.FarmCalls.{farm, leaf}
 use Rattle.edit.specs.Act.{insertion, deletion}
 use Rattle.edit.specs.Independent.{Independent, inTurn, SameRows}
 use Rattle.edit.proofs.Demand3.{demand-three}

@@ -1,5 +1,5 @@
--- The library's answers as one struct for C: include/reach.h. Refusal 0 is acceptance; what an answer does not use is 0.
--- Assumes nothing.
+-- The library's answers as one struct for C: include/reach.h. Refusal 0 is acceptance; what an answer does not use
+-- is 0. Assumes nothing.
 use mathlib.Core.Path.{_≡_}
 use mathlib.Core.List.{List}
 use Prim.Native.Nat.{ℕ}

@@ -20,7 +20,9 @@ pub extern "C" fn reach_check(
     name: &[usize],
     count: usize,
 ) -> Answer
-    ensures { λ r. ⌜ r ≡ checkAnswer (checkOutcome (tableOf (now (key .entry)) (now (size .entry)) (now (level .entry)) (now (kind .entry)) (now (name .entry)) count)) ⌝ }
+    ensures { λ r. ⌜ r ≡ checkAnswer (checkOutcome
+        (tableOf (now (key .entry)) (now (size .entry)) (now (level .entry))
+        (now (kind .entry)) (now (name .entry)) count)) ⌝ }
 {
     answer::of_check(table::check(key, size, level, kind, name, count))
 }
@@ -36,7 +38,9 @@ pub extern "C" fn reach_find(
     count: usize,
     wanted: usize,
 ) -> Answer
-    ensures { λ r. ⌜ r ≡ findAnswer (findOutcome (tableOf (now (key .entry)) (now (size .entry)) (now (level .entry)) (now (kind .entry)) (now (name .entry)) count) wanted) ⌝ }
+    ensures { λ r. ⌜ r ≡ findAnswer (findOutcome
+        (tableOf (now (key .entry)) (now (size .entry)) (now (level .entry))
+        (now (kind .entry)) (now (name .entry)) count) wanted) ⌝ }
 {
     answer::of_find(table::find(key, size, level, kind, name, count, wanted))
 }
@@ -58,7 +62,12 @@ pub extern "C" fn reach_step(
     out_role: &mut [usize],
     out_row: &mut [usize],
 ) -> Answer
-    ensures { λ r. ⌜ StepLeaves (stepOutcome (tableOf (now (key .entry)) (now (size .entry)) (now (level .entry)) (now (kind .entry)) (now (name .entry)) count) (now (role .entry)) (now (row .entry)) (askOf axis test «test_name») (now («out_role» .entry)) (now («out_row» .entry))) r (now («out_role» .exit)) (now («out_row» .exit)) ⌝ }
+    ensures { λ r. ⌜ StepLeaves (stepOutcome
+        (tableOf (now (key .entry)) (now (size .entry)) (now (level .entry))
+        (now (kind .entry)) (now (name .entry)) count)
+        (now (role .entry)) (now (row .entry)) (askOf axis test «test_name»)
+        (now («out_role» .entry)) (now («out_row» .entry)))
+        r (now («out_role» .exit)) (now («out_row» .exit)) ⌝ }
 {
     answer::of_step(step::step(
         key,

@@ -1,5 +1,5 @@
--- Which names fit a test code: `test-named` for codes 2 and 6, `test-plain` for the others, `test-above` for unknown ones.
--- Assumes nothing.
+-- Which names fit a test code: `test-named` for codes 2 and 6, `test-plain` for the others, `test-above` for
+-- unknown ones. Assumes nothing.
 use mathlib.Core.Path.{_≡_, refl, ap, _∙_}
 use mathlib.Core.Logic.{_⊎_, inl, inr, ⊎-elim}
 use mathlib.Core.Bool.{Bool, true, false, cond, not, _&&_, _||_}

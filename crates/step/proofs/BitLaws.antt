@@ -1,16 +1,17 @@
 -- Laws of a word's bits: bit by bit (`bit-low`, `bit-half`, `bit-zero`, `bit-or`, `bit-pow`), a word with a bit set is
--- not 0 (`bit-nonzero`), and the lowest bit that is set, with the word without it (`lowest-bit`, `lowest-less`).
--- Assumes nothing.
+-- not 0 (`bit-nonzero`), none is set past a width (`bit-high`), and the lowest bit that is set, with the word without
+-- it (`lowest-bit`, `lowest-less`). Assumes nothing.
 use mathlib.Core.Path.{_≡_, refl, sym, ap, ap₂, _∙_}
 use mathlib.Core.Bool.{Bool, true, false, _&&_, _||_, true≢false}
-use Prim.Native.Nat.{ℕ, zero, suc, _+_, _-_, _*_, _/_, _%_, _^_, _<_, min, max}
-use native.Mathlib.Nat.{not-suc-le-zero, le-of-suc-le-suc, div-one, pow-suc, mul-mod-left, mul-div-cancel}
+use Prim.Native.Nat.{ℕ, zero, suc, _+_, _-_, _*_, _/_, _%_, _^_, _<_, _≤_, min, max}
+use native.Mathlib.Nat.{not-suc-le-zero, le-of-suc-le-suc, div-one, div-eq-of-lt}
+use native.Mathlib.Nat.{pow-suc, mul-mod-left, mul-div-cancel}
 use native.Mathlib.Numerals.{add-one}
 use native.Mathlib.Omega.{arith}
 use borrow.Author.Tests.{lt-ltb}
 use lib.Dec.{ltb, eqb, eqb·zero-suc, eqb·suc-zero, eqb·suc-suc, leb·suc-zero, leb·suc-suc}
 use lib.Arith.{digits-div, digits-mod, lt-one}
-use lib.Pow.{shr-shr, shr-lt}
+use lib.Pow.{shr-shr, shr-lt, pow-mono}
 use lib.Bits.{bitAnd, bitOr, or-step, or-shr, and-step, and-self, and-le-r}
 use lib.Count.{trailingZeros, under}
 use Rattle.step.specs.RowSet.{bit}
@@ -35,6 +36,14 @@ bit-zero (suc b) = bit-half zero b ∙ bit-zero b
 -- so a word with a bit is not 0
 pub bit-nonzero : (x b : ℕ) → bit x b ≡ true → x ≡ 0 → ⊥
 bit-nonzero x b e z = true≢false (sym e ∙ ap (λ (n : ℕ). bit n b) z ∙ bit-zero b)
+
+-- a word has no bit past its width
+pub bit-high : (x k b : ℕ) → x < 2 ^ k → k ≤ b → bit x b ≡ false
+unfolding bit
+bit-high x k b l h =
+    let m : 2 ^ k ≤ 2 ^ b = pow-mono h in
+    let q : x / 2 ^ b ≡ 0 = div-eq-of-lt (omega arith) in
+    ap (λ (n : ℕ). eqb (n % 2) 1) q
 
 -- two digits, joined
 digit-or : (p q : ℕ) → p < 2 → q < 2 → eqb (max p q) 1 ≡ (eqb p 1 || eqb q 1)

@@ -1,5 +1,5 @@
--- Counting the lines role by role: `counted-none` at the start, `counted-more` for a run more, `counted-done` at the end;
--- `run-asks`: what the step of one role asks for at a run. Assumes nothing.
+-- Counting the lines role by role: `counted-none` at the start, `counted-more` for a run more, `counted-done` at
+-- the end; `run-asks`: what the step of one role asks for at a run. Assumes nothing.
 use mathlib.Core.Path.{_≡_, refl, sym, ap, ap₂, subst, _∙_}
 use mathlib.Core.Logic.{_⊎_}
 use mathlib.Core.Bool.{Bool, true, false, not}
@@ -97,15 +97,23 @@ module _ (t : Table) (a : Ask) (up role row : List ℕ) (s : Steps t a up role r
     blank = b;
   }
 
-  pub counted-none : (words scratch : List ℕ) → Blank words → length scratch ≡ 4096 → Counted t a role row words scratch 0 0
-  counted-none words scratch b w = record { within = omega arith; blank = b; wide = w; small = omega arith; sum = omega arith }
+  pub counted-none : (words scratch : List ℕ) → Blank words → length scratch ≡ 4096
+      → Counted t a role row words scratch 0 0
+  counted-none words scratch b w = record {
+    within = omega arith;
+    blank = b;
+    wide = w;
+    small = omega arith;
+    sum = omega arith;
+  }
 
   -- one role reaches at most all rows
   pub row-most : (i j : ℕ) → length (roleRows t a (part row i j)) ≤ 4096
   unfolding oneRole
   row-most i j = le-trans (gather-most _ (t .count)) (s .sound .in-use .few)
 
-  pub counted-asks : {words scratch : List ℕ} {total i : ℕ} (j : ℕ) → Counted t a role row words scratch total i → RunEnd role i j
+  pub counted-asks : {words scratch : List ℕ} {total i : ℕ} (j : ℕ) → Counted t a role row words scratch total i
+      → RunEnd role i j
       → RoleAsk (a .axis) (t .size) (t .level) (t .kind) (t .name) up (t .count) (wantedKind (a .test)) (a .name)
       (part row i j) words scratch
   counted-asks {words} {scratch} {i = i} j c e =
@@ -132,7 +140,8 @@ module _ (t : Table) (a : Ask) (up role row : List ℕ) (s : Steps t a up role r
           sum = omega (arith, c .sum);
         }
 
-  pub counted-done : {words scratch : List ℕ} {total i : ℕ} → Counted t a role row words scratch total i → length role ≤ i
+  pub counted-done : {words scratch : List ℕ} {total i : ℕ} → Counted t a role row words scratch total i
+      → length role ≤ i
       → total ≡ length (stepList t a (pairsOf role row))
   counted-done {i = i} c l =
       let z : length (stepList t a (pairsFrom role row i)) ≡ 0 = ap length (step-end i l) in omega (arith, c .sum)

@@ -1,7 +1,8 @@
 -- The children of a row in rows whose levels and sizes make a tree, met by hops over subtrees: `child-within`,
--- `child-first`, `child-next`, `child-none`. The walk that puts them into a set, turn by turn: `hop-start`,
--- `hop-next`, `hop-done`, and where it has nothing to do, `hop-nothing`, `hop-met`. Assumes nothing.
-use Prim.Native.Nat.{ℕ, suc, _+_, _<_, _≤_}
+-- `child-first`, `child-next`, `child-none`, `child-empty`. The walk that puts them into a set, word by word:
+-- `hop-start`, `hop-gathers`, `hop-next`, `hop-done`, and where it has nothing to do, `hop-nothing`, `hop-met`.
+-- Assumes nothing.
+use Prim.Native.Nat.{ℕ, suc, _+_, _*_, _/_, _<_, _≤_}
 use mathlib.Core.Path.{_≡_, refl, sym, ap, _∙_}
 use mathlib.Core.Logic.{_⊎_, inl, inr, ⊎-elim}
 use mathlib.Core.Bool.{Bool, true, false, _&&_, _||_}
@@ -18,9 +19,9 @@ use Rattle.tree.proofs.TreeLaws.{Under, parent-is, parent-less, parent-below, u
 use Rattle.tree.proofs.SoundLaws.{shape-steps, shape-descendants, shape-fits}
 use Rattle.tree.proofs.SoundLaws.{both, both-of, either, either-left, either-right}
 use Rattle.tree.proofs.AxisLaws.{same-test}
-use Rattle.step.specs.RowSet.{has, Added}
-use Rattle.step.specs.Mark.{childIn, Joined, Hops}
-use Rattle.step.proofs.MarkLaws.{joined-none, joined-as, joined-add}
+use Rattle.step.specs.RowSet.{has, inWord}
+use Rattle.step.specs.Mark.{childIn, Joined, Hops, Gathers, Gathered}
+use Rattle.step.proofs.MarkLaws.{joined-none, joined-as, joined-more}
 
 -- a is below b, or not
 pub less? : (a b : ℕ) → (a < b) ⊎ (b ≤ a)
@@ -119,15 +120,33 @@ module _ (level : List ℕ) (p a e w : ℕ) where
   unfolding childIn
   in-child h = both-of (eq-eqb _ _ (h .child)) (both-of (le-leb _ _ (h .from)) (lt-ltb _ _ (h .before)))
 
--- the children before v
-abbrev pub childBefore : List ℕ → ℕ → ℕ → ℕ → ℕ → ℕ → Bool
-childBefore level p a e v w = childIn level p a e w && ltb w v
+-- no row is both from a on and before a
+pub child-empty : (level : List ℕ) (p a w : ℕ) → childIn level p a a w ≡ true → ⊥
+child-empty level p a w t = let x : ChildIn level p a a w = child-in level p a a w t in omega arith
 
--- the children before v are in, and v is the next child, or not before e
+-- the children from a on before r are those before v and those from v on
+child-split : (level : List ℕ) (p a v r w : ℕ) → a ≤ v → v ≤ r
+    → (childIn level p v r w || childIn level p a v w) ≡ childIn level p a r w
+child-split level p a v r w l h = same-test _ _
+    (λ t. ⊎-elim
+    (λ z. let x : ChildIn level p v r w = child-in level p v r w z in
+    in-child level p a r w record { child = x .child; from = omega arith; before = x .before })
+    (λ z. let x : ChildIn level p a v w = child-in level p a v w z in
+    in-child level p a r w record { child = x .child; from = x .from; before = omega arith })
+    (either (childIn level p v r w) (childIn level p a v w) t))
+    (λ t. let x : ChildIn level p a r w = child-in level p a r w t in ⊎-elim
+    (λ (z : w < v). either-right (childIn level p v r w)
+    (in-child level p a v w record { child = x .child; from = x .from; before = z }))
+    (λ (z : v ≤ w). either-left (childIn level p a v w)
+    (in-child level p v r w record { child = x .child; from = z; before = x .before }))
+    (less? w v))
+
+-- the children before v are in, all before e, and v is the next child, or not before e
 pub record Hopped (level : List ℕ) (p a e : ℕ) (old words : List ℕ) (used v : ℕ) : Type 0 where
   pub low : a ≤ v
   pub child : v < e → parent level v ≡ suc p
-  pub joined : Joined (childBefore level p a e v) old words used
+  pub inside : (w : ℕ) → childIn level p a v w ≡ true → w < e
+  pub joined : Joined (childIn level p a v) old words used
 
 module _ {size level : List ℕ} {n p a e : ℕ} {old : List ℕ} {u : ℕ} (h : Hops size level n p a e old u) where
   -- a row before e is in use
@@ -148,56 +167,42 @@ module _ {size level : List ℕ} {n p a e : ℕ} {old : List ℕ} {u : ℕ} (h :
   hop-start = record {
     low = le-refl a;
     child = h .child;
-    joined = joined-none (childBefore level p a e a) (h .set) (λ w l t.
-        let x = both (childIn level p a e w) (ltb w a) t in
-        absurd (omega (arith, child-in level p a e w (x .0) .from, ltb-true w a (x .1))));
+    inside = λ w t. absurd (child-empty level p a w t);
+    joined = joined-none (childIn level p a a) (h .set) (λ w l t. absurd (child-empty level p a w t));
   }
 
   module _ {words : List ℕ} {used v : ℕ} (s : Hopped level p a e old words used v) where
     pub hop-done : e ≤ v → Joined (childIn level p a e) old words used
     hop-done q = joined-as (childIn level p a e) (s .joined)
-        (λ w l t. both (childIn level p a e w) (ltb w v) t .0)
-        (λ w l t. either-left (has old w) (both-of t (lt-ltb w v (omega (arith, child-in level p a e w t .before)))))
+        (λ w l t. let x : ChildIn level p a v w = child-in level p a v w t in
+        in-child level p a e w record { child = x .child; from = x .from; before = s .inside w t })
+        (λ w l t. let x : ChildIn level p a e w = child-in level p a e w t in either-left (has old w)
+        (in-child level p a v w record { child = x .child; from = x .from; before = omega arith }))
 
-    module _ (q : v < e) where
-      -- the next child
-      abbrev next : ℕ
-      next = v + at size v + 1
+    module _ (q : v < e) {stop : ℕ} (m : stop ≤ e) where
+      -- the next word's children can be gathered
+      pub hop-gathers : v < stop → stop ≤ 64 * (v / 64) + 64 → Gathers size level n p v stop
+      hop-gathers b g = record {
+        shape = h .shape;
+        row = h .row;
+        first = b;
+        child = s .child q;
+        inside = omega (arith, h .inside);
+        word = g;
+      }
 
-      -- the children before it are those before v, and v
-      more-children : (w : ℕ) → (eqb w v || childBefore level p a e v w) ≡ childBefore level p a e next w
-      more-children w = same-test _ _ there back
-        where
-          there : (eqb w v || childBefore level p a e v w) ≡ true → childBefore level p a e next w ≡ true
-          there t = ⊎-elim
-              (λ z. let g : w ≡ v = eqb-true w v z in both-of
-              (in-child level p a e w record {
-                child = ap (parent level) g ∙ s .child q;
-                from = omega (arith, s .low);
-                before = omega arith;
-              })
-              (lt-ltb w next (omega arith)))
-              (λ z. let g = both (childIn level p a e w) (ltb w v) z in
-              both-of (g .0) (lt-ltb w next (omega (arith, ltb-true w v (g .1)))))
-              (either (eqb w v) (childBefore level p a e v w) t)
-
-          back : childBefore level p a e next w ≡ true → (eqb w v || childBefore level p a e v w) ≡ true
-          back t =
-              let g = both (childIn level p a e w) (ltb w next) t in
-              let x : ChildIn level p a e w = child-in level p a e w (g .0) in
-              let b : w < next = ltb-true w next (g .1) in
-              ⊎-elim
-              (λ (z : w < v). either-right (eqb w v) (both-of (g .0) (lt-ltb w v z)))
-              (λ (z : v ≤ w). ⊎-elim
-              (λ (y : v < w).
-              absurd (child-none (h .shape) p v w (hop-row v q) (s .child q) y (omega arith) (x .child)))
-              (λ (y : w ≤ v). either-left (childBefore level p a e v w) (eq-eqb w v (omega arith)))
-              (less? v w))
-              (less? w v)
-
-      pub hop-next : {new : List ℕ} {r : ℕ} → Added words v new r → Hopped level p a e old new r next
-      hop-next d = record {
-        low = omega (arith, s .low);
-        child = λ z. child-next (h .shape) p v (h .row) (hop-row v q) (s .child q) (omega (arith, h .inside));
-        joined = joined-add (childBefore level p a e next) (s .joined) d (λ w l. more-children w);
+      -- they go in
+      pub hop-next : {r bits : ℕ} {new : List ℕ} {marks : ℕ} → Gathered size level p v stop r bits
+          → Joined (inWord (64 * (v / 64)) bits) words new marks → Hopped level p a e old new marks r
+      hop-next {r} {bits} g j = record {
+        low = omega (arith, s .low, g .low);
+        child = λ z. g .child (omega (arith, h .inside));
+        inside = λ w t. ⊎-elim
+            (λ z. omega (arith, g .inside w z))
+            (λ z. s .inside w z)
+            (either (childIn level p v r w) (childIn level p a v w)
+            (child-split level p a v r w (s .low) (g .low) ∙ t));
+        joined = joined-more (childIn level p a r) (s .joined) j (λ w l.
+            ap (λ (b : Bool). b || childIn level p a v w) (g .bits w)
+            ∙ child-split level p a v r w (s .low) (g .low));
       }

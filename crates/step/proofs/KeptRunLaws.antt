@@ -24,7 +24,8 @@ pub record Keeping (axis : ℕ) (level role row : List ℕ) (kept i : ℕ) : Typ
   pub small : kept ≤ i
   sum : kept + keptCount axis level (pairsFrom role row i) ≡ keptCount axis level (pairsOf role row)
 
-module _ (axis : ℕ) (size level : List ℕ) (n : ℕ) (role row : List ℕ) (s : Shape size level n) (p : PairsFit role row n) where
+module _ (axis : ℕ) (size level : List ℕ) (n : ℕ) (role row : List ℕ) (s : Shape size level n)
+    (p : PairsFit role row n) where
   pub keeping-none : Keeping axis level role row 0 0
   keeping-none = record { within = omega arith; small = omega arith; sum = omega arith }
 
@@ -43,8 +44,10 @@ module _ (axis : ℕ) (size level : List ℕ) (n : ℕ) (role row : List ℕ) (s
       ≡ keptOf axis level (part row i j) + keptCount axis level (pairsFrom role row j)
   kept-run i j e =
       ap (keptCount axis level) (pairs-from-run role row n i j p e)
-      ∙ kept-split axis level (withRole (at role i) (part row i j)) (pairsFrom role row j) (rest-above role row n i j p e)
-      ∙ ap (λ (k : ℕ). k + keptCount axis level (pairsFrom role row j)) (kept-role axis level (at role i) (part row i j))
+      ∙ kept-split axis level (withRole (at role i) (part row i j)) (pairsFrom role row j)
+      (rest-above role row n i j p e)
+      ∙ ap (λ (k : ℕ). k + keptCount axis level (pairsFrom role row j))
+      (kept-role axis level (at role i) (part row i j))
 
   -- a run keeps at most its pairs
   pub run-most : (i j : ℕ) → RunEnd role i j → keptOf axis level (part row i j) ≤ j - i

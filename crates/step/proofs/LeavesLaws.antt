@@ -1,7 +1,6 @@
--- What a step leaves, by the way it ends: refused by a check (`leaves-refused`), without room (`leaves-full`, else `room-fits`), or
--- with its lines written (`leaves-listed`). `leaves-only`: two ends that the contract allows are the same. `call-known`: what the
--- checks that pass say.
--- Assumes nothing.
+-- What a step leaves, by the way it ends: refused by a check (`leaves-refused`), without room (`leaves-full`, else
+-- `room-fits`), or with its lines written (`leaves-listed`). `leaves-only`: two ends that the contract allows are
+-- the same. `call-known`: what the checks that pass say. Assumes nothing.
 use mathlib.Core.Path.{_≡_, refl, sym, ap, ap₂, _∙_}
 use mathlib.Core.Bool.{Bool}
 use mathlib.Core.List.{List}
@@ -48,9 +47,11 @@ module _ (t : Table) (a : Ask) (role row outRole outRow : List ℕ) where
   abbrev lines : List Pair
   lines = stepList t a (pairsOf role row)
 
-  step-check : stepCheck t role row a outRole outRow ≡ next (callChecks t a role row) (roomCheck (length lines) outRole outRow)
+  step-check : stepCheck t role row a outRole outRow
+      ≡ next (callChecks t a role row) (roomCheck (length lines) outRole outRow)
   unfolding stepCheck
-  step-check = next-next (tableCheck t) (pairCheck role row (t .count)) (askCheck a) (roomCheck (length lines) outRole outRow)
+  step-check =
+      next-next (tableCheck t) (pairCheck role row (t .count)) (askCheck a) (roomCheck (length lines) outRole outRow)
 
   pub leaves-refused : (n p : ℕ) → callChecks t a role row ≡ Refused n p
       → Leaves (stepOutcome t role row a outRole outRow) (NotListed n p) outRole outRow
@@ -62,7 +63,9 @@ module _ (t : Table) (a : Ask) (role row outRole outRow : List ℕ) where
 
   room-check : Known t a role row → stepCheck t role row a outRole outRow ≡ roomCheck (length lines) outRole outRow
   unfolding next
-  room-check k = step-check ∙ ap (λ (x : Checked). next x (roomCheck (length lines) outRole outRow)) (known-passed t a role row k)
+  room-check k =
+      step-check
+      ∙ ap (λ (x : Checked). next x (roomCheck (length lines) outRole outRow)) (known-passed t a role row k)
 
   -- without room
   pub leaves-full : (n p : ℕ) → Known t a role row → roomCheck (length lines) outRole outRow ≡ Refused n p

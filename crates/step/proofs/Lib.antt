@@ -12,7 +12,9 @@ pub mod WordLaws
 pub mod DrainLaws
 pub mod MarkLaws
 pub mod OpenLaws
+pub mod AddWordLaws
 pub mod HopLaws
+pub mod WordChildLaws
 pub mod ClimbLaws
 pub mod TurnLaws
 pub mod ChildLaws

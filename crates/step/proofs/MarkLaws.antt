@@ -1,6 +1,6 @@
 -- Sets of rows that grow. What is on the axis of one of several contexts: `any-take-more`, `any-also`. The set with
--- more rows: `joined-none`, `joined-as`, `joined-add`. The set of what the contexts so far reach: `marked-none`,
--- `marked-as`, `marked-more`. A set is used through `has` alone. Assumes nothing.
+-- more rows: `joined-none`, `joined-as`, `joined-add`, `joined-more`. The set of what the contexts so far reach:
+-- `marked-none`, `marked-as`, `marked-more`. A set is used through `has` alone. Assumes nothing.
 use Prim.Native.Nat.{ℕ, zero, suc, _+_, _<_}
 use mathlib.Core.Path.{_≡_, refl, sym, ap, ap₂, _∙_}
 use mathlib.Core.Logic.{⊎-elim}
@@ -103,6 +103,18 @@ module _ {f : ℕ → Bool} {old words : List ℕ} {used : ℕ} where
         a .rows w l
         ∙ ap (λ (b : Bool). eqb w x || b) (j .rows w l)
         ∙ sym (or-assoc (eqb w x) (f w) (has old w))
+        ∙ ap (λ (b : Bool). b || has old w) (h w l);
+  }
+
+  -- several rows more
+  pub joined-more : {g : ℕ → Bool} (k : ℕ → Bool) {new : List ℕ} {r : ℕ} → Joined f old words used
+      → Joined g words new r → ((w : ℕ) → w < 4096 → (g w || f w) ≡ k w) → Joined k old new r
+  joined-more {g} k j a h = record {
+    set = a .set;
+    rows = λ w l.
+        a .rows w l
+        ∙ ap (λ (b : Bool). g w || b) (j .rows w l)
+        ∙ sym (or-assoc (g w) (f w) (has old w))
         ∙ ap (λ (b : Bool). b || has old w) (h w l);
   }
 

@@ -1,8 +1,6 @@
--- One role on any axis: which axes are ranged (`ranged-last`) and which are marked (`marked-last`, `marked-rest`), and that siblings
--- follow parents (`siblings-climb`); the rows
--- of a marked set are the role's rows (`marked-rows`, `marked-drains`); `role-as`,
--- `wrote-axis`, `marked-as`: the same at an equal axis.
--- Assumes nothing.
+-- One role on any axis: which axes are ranged (`ranged-last`) and which are marked (`marked-last`, `marked-rest`),
+-- and that siblings follow parents (`siblings-climb`); the rows of a marked set are the role's rows (`marked-rows`,
+-- `marked-drains`); `role-as`, `wrote-axis`, `marked-as`: the same at an equal axis. Assumes nothing.
 use mathlib.Core.Path.{_≡_, refl, sym, ap, ap₂, subst, _∙_}
 use mathlib.Core.Logic.{_⊎_, inl, inr, ⊎-elim}
 use mathlib.Core.Bool.{Bool, true, false, _&&_, _||_, true≢false}

@@ -1,5 +1,5 @@
 -- Laws of the set of rows: its rows word by word (`has-word`, `has-zero`, `unmarked-zero`), a blank set (`has-blank`,
--- `blank-set`, `blank-zeros`), and a row that is put in (`shifted-one`, `add-added`). Assumes nothing.
+-- `blank-set`, `blank-zeros`), and a row that is put in (`shifted-one`, `bit-with`, `add-added`). Assumes nothing.
 use mathlib.Core.Path.{_≡_, refl, sym, ap, ap₂, _∙_}
 use mathlib.Core.Bool.{Bool, true, false, not, _||_, or-false, or-true, or-comm}
 use mathlib.Core.List.{List}
@@ -50,7 +50,7 @@ pub shifted-one : (b : ℕ) → b < 64 → 1 * 2 ^ b % 2 ^ 64 ≡ 2 ^ b
 shifted-one b l = shl-exact 1 b 64 (le-refl 2) (omega arith) ∙ one-mul (2 ^ b)
 
 -- the bits of a word with bit b
-bit-with : (word b i : ℕ) → bit (bitOr word (2 ^ b)) i ≡ (bit word i || eqb i b)
+pub bit-with : (word b i : ℕ) → bit (bitOr word (2 ^ b)) i ≡ (bit word i || eqb i b)
 bit-with word b i = bit-or word (2 ^ b) i ∙ ap (λ (t : Bool). bit word i || t) (bit-pow b i)
 
 -- a word with a bit is not 0

@@ -1,6 +1,6 @@
--- The step of many roles, run by run: the lines of the pairs from a place on are those of the run that begins there, then
--- those of the pairs after it (`step-run`). The run's lines are its role with the rows of one role (`run-lines`), and its
--- rows are contexts (`run-contexts`). Assumes nothing.
+-- The step of many roles, run by run: the lines of the pairs from a place on are those of the run that begins
+-- there, then those of the pairs after it (`step-run`). The run's lines are its role with the rows of one role
+-- (`run-lines`), and its rows are contexts (`run-contexts`). Assumes nothing.
 use mathlib.Core.Path.{_≡_, refl, sym, ap, ap₂, subst, _∙_}
 use mathlib.Core.Logic.{_⊎_, inl, inr, ⊎-elim}
 use mathlib.Core.Bool.{Bool, true, false, not, _&&_, _||_, true≢false}
@@ -85,7 +85,8 @@ pairs-run r (suc k) [] ws l e h = absurd (not-suc-le-zero l)
 pairs-run r (suc k) (s ∷ rs) [] l e h = absurd (let z : suc (length rs) ≡ 0 = e in omega arith)
 pairs-run r (suc k) (s ∷ rs) (w ∷ ws) l e h =
     ap₂ (λ (q : ℕ) (ps : List Pair). pair q w ∷ ps) (h 0 (omega arith))
-    (pairs-run r k rs ws (le-of-suc-le-suc l) (let z : suc (length rs) ≡ suc (length ws) = e in omega arith) (λ x m. h (suc x) (omega arith)))
+    (pairs-run r k rs ws (le-of-suc-le-suc l) (let z : suc (length rs) ≡ suc (length ws) = e in omega arith)
+    (λ x m. h (suc x) (omega arith)))
 
 -- a run of this role stands in front of the rest
 role-in : (r : ℕ) (cs : List ℕ) (p : Pair) → In p (withRole r cs) → p .role ≡ r
@@ -112,7 +113,8 @@ rows-in-order role row k o q =
     less : ℕ → Bool
     less m = ltb (at role (suc k)) (at role m) || (eqb (at role (suc k)) (at role m) && ltb (at row (suc k)) (at row m))
 
-    go : (not (eqb (suc k) 0) && less k) ≡ false → (b : Bool) → ltb (at row (suc k)) (at row k) ≡ b → at row k ≤ at row (suc k)
+    go : (not (eqb (suc k) 0) && less k) ≡ false → (b : Bool) → ltb (at row (suc k)) (at row k) ≡ b
+        → at row k ≤ at row (suc k)
     go h false e = ltb-false _ _ e
     go h true e = absurd (true≢false (sym (both-of (ap not (ne-eqb (suc k) 0 (λ y. absurd (omega arith))))
         (either-right (ltb (at role (suc k)) (at role k)) (both-of (eq-eqb (at role (suc k)) (at role k) q) e))) ∙ h))
@@ -152,18 +154,22 @@ module _ (role row : List ℕ) (n i j : ℕ) (p : PairsFit role row n) (e : RunE
       let k : at role (j - 1) ≤ at role (suc (j - 1)) = roles-level (j - 1) (omega (arith, last)) in
       let m : at role (j - 1) ≡ at role i = e .same (j - 1) (omega (arith, e .after)) (omega (arith, e .after)) in
       let q : at role (suc (j - 1)) ≡ at role j = ap (at role) last in
-      ⊎-elim (λ z. absurd (e .next l (sym z))) (λ z. z) (eq-or-lt-of-le (let z : at role i ≤ at role j = omega arith in z))
+      ⊎-elim (λ z. absurd (e .next l (sym z))) (λ z. z)
+      (eq-or-lt-of-le (let z : at role i ≤ at role j = omega arith in z))
 
   pub rest-above : RolesBelow (withRole (at role i) (part row i j)) (pairsFrom role row j)
   rest-above a b u v = elim (decLt j (length role)) [
     | yes l ↦
         let w : In b (pairsOf (at role j ∷ drop (suc j) role) (at row j ∷ drop (suc j) row)) =
-        subst (λ (ps : List Pair). In b ps) (ap₂ pairsOf (drop-cons role j 0 l) (drop-cons row j 0 (omega (arith, p .even)))) v in
+        subst (λ (ps : List Pair). In b ps)
+        (ap₂ pairsOf (drop-cons role j 0 l) (drop-cons row j 0 (omega (arith, p .even)))) v in
         let lev : Level (at role j ∷ drop (suc j) role) =
         subst Level (drop-cons role j 0 l) (level-drop j role roles-level) in
-        let m : at role j ≤ b .role = from-front (at role j) (at row j) (drop (suc j) role) (drop (suc j) row) lev b w in
+        let m : at role j ≤ b .role =
+        from-front (at role j) (at row j) (drop (suc j) role) (drop (suc j) row) lev b w in
         omega (arith, next-above l, role-in (at role i) (part row i j) a u)
-    | no l ↦ absurd (none (drop j role) (drop j row) (drop-of-length-le role (let z : length role ≤ j = omega arith in z)) b v)
+    | no l ↦ absurd (none (drop j role) (drop j row)
+        (drop-of-length-le role (let z : length role ≤ j = omega arith in z)) b v)
   ]
 
   part-cons : part row i j ≡ at row i ∷ take (j - suc i) (drop (suc i) row)

@@ -29,6 +29,7 @@ pub record Fits (t : Table) (a : Ask) (role row outRole outRow : List ℕ) : Typ
   pub rows : length (stepList t a (pairsOf role row)) ≤ length outRow
 
 -- the result columns begin with the lines of the step, and r says how many they are
-pub record Lists (t : Table) (a : Ask) (role row outRole outRow : List ℕ) (r : ℕ) (newRole newRow : List ℕ) : Type 0 where
+pub record Lists (t : Table) (a : Ask) (role row outRole outRow : List ℕ) (r : ℕ) (newRole newRow : List ℕ)
+    : Type 0 where
   pub roles : Wrote (rolesOf (stepList t a (pairsOf role row))) outRole r newRole
   pub rows : Wrote (rowsOf (stepList t a (pairsOf role row))) outRow r newRow

@@ -16,7 +16,9 @@ pub fn check_pairs_and_ask(
     test: usize,
     test_name: usize,
 ) -> Checked
-    ensures { λ r. ⌜ r ≡ next (pairCheck (now (role .entry)) (now (row .entry)) count) (askCheck (askOf axis test «test_name»)) ⌝ }
+    ensures { λ r. ⌜ r ≡ next
+        (pairCheck (now (role .entry)) (now (row .entry)) count)
+        (askCheck (askOf axis test «test_name»)) ⌝ }
 {
     let checked = check_pairs(role, row, count);
     match checked {
@@ -39,7 +41,11 @@ pub fn check_call(
     test: usize,
     test_name: usize,
 ) -> Checked
-    ensures { λ r. ⌜ r ≡ next (tableCheck (tableOf (now (key .entry)) (now (size .entry)) (now (level .entry)) (now (kind .entry)) (now (name .entry)) count)) (next (pairCheck (now (role .entry)) (now (row .entry)) count) (askCheck (askOf axis test «test_name»))) ⌝ }
+    ensures { λ r. ⌜ r ≡ next
+        (tableCheck (tableOf (now (key .entry)) (now (size .entry)) (now (level .entry))
+        (now (kind .entry)) (now (name .entry)) count))
+        (next (pairCheck (now (role .entry)) (now (row .entry)) count)
+        (askCheck (askOf axis test «test_name»))) ⌝ }
 {
     let checked = table::check(key, size, level, kind, name, count);
     match checked {

@@ -121,8 +121,12 @@ pub fn surely_fits(
     test_name: usize,
     room: usize,
 ) -> bool
-    requires { ⌜ Steps (tableOf (now key) (now size) (now level) (now kind) (now name) count) (askOf axis test «test_name») (now up) (now role) (now row) ⌝ }
-    ensures { λ r. ⌜ (r ≡ true → length (stepList (tableOf (now (key .entry)) (now (size .entry)) (now (level .entry)) (now (kind .entry)) (now (name .entry)) count) (askOf axis test «test_name») (pairsOf (now (role .entry)) (now (row .entry)))) ≤ room) ⌝ }
+    requires { ⌜ Steps (tableOf (now key) (now size) (now level) (now kind) (now name) count)
+        (askOf axis test «test_name») (now up) (now role) (now row) ⌝ }
+    ensures { λ r. ⌜ (r ≡ true → length (stepList
+        (tableOf (now (key .entry)) (now (size .entry)) (now (level .entry))
+        (now (kind .entry)) (now (name .entry)) count)
+        (askOf axis test «test_name») (pairsOf (now (role .entry)) (now (row .entry)))) ≤ room) ⌝ }
 {
     if roles(role) * count <= room {
         return true;

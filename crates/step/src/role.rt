@@ -35,8 +35,12 @@ fn ranged(
     out: &mut [usize],
 ) -> usize
     requires { ⌜ rangedAxis axis ≡ true ⌝ }
-    requires { ⌜ RoleIn axis (now size) (now level) (now kind) (now name) count «want_kind» «want_name» (now rows) (now out) ⌝ }
-    ensures { λ r. ⌜ Wrote (oneRole axis (now (level .entry)) count (fits «want_kind» «want_name» (now (kind .entry)) (now (name .entry))) (now (rows .entry))) (now (out .entry)) r (now (out .exit)) ⌝ }
+    requires { ⌜ RoleIn axis (now size) (now level) (now kind) (now name) count
+        «want_kind» «want_name» (now rows) (now out) ⌝ }
+    ensures { λ r. ⌜ Wrote
+        (oneRole axis (now (level .entry)) count
+        (fits «want_kind» «want_name» (now (kind .entry)) (now (name .entry))) (now (rows .entry)))
+        (now (out .entry)) r (now (out .exit)) ⌝ }
 {
     match axis {
         1 => ranges::own_rows(
@@ -165,8 +169,11 @@ pub fn one_role(
     words: &mut [u64; 64],
     out: &mut [usize],
 ) -> usize
-    requires { ⌜ RoleAsk axis (now size) (now level) (now kind) (now name) (now up) count «want_kind» «want_name» (now rows) (now words) (now out) ⌝ }
-    ensures { λ r. ⌜ RoleDone axis (now (level .entry)) (now (kind .entry)) (now (name .entry)) count «want_kind» «want_name» (now (rows .entry)) (now (words .exit)) (now (out .entry)) r (now (out .exit)) ⌝ }
+    requires { ⌜ RoleAsk axis (now size) (now level) (now kind) (now name) (now up) count
+        «want_kind» «want_name» (now rows) (now words) (now out) ⌝ }
+    ensures { λ r. ⌜ RoleDone axis (now (level .entry)) (now (kind .entry)) (now (name .entry)) count
+        «want_kind» «want_name» (now (rows .entry)) (now (words .exit))
+        (now (out .entry)) r (now (out .exit)) ⌝ }
 {
     if is_ranged(axis) {
         return ranged(

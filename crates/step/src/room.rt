@@ -1,4 +1,4 @@
-// Whether the lines of a step fit: document 01, refusal 8. They are counted only where no cheap bound shows that they do.
+// Whether the lines of a step fit: document 01, refusal 8. They are counted only where no cheap bound shows it.
 ghost use mathlib.Core.Path.{_≡_};
 ghost use lib.Dec.{ltb};
 ghost use lib.ListN.{length};
@@ -27,8 +27,16 @@ pub fn check_room(
     test_name: usize,
     room: usize,
 ) -> Checked
-    requires { ⌜ Steps (tableOf (now key) (now size) (now level) (now kind) (now name) count) (askOf axis test «test_name») (now up) (now role) (now row) ⌝ }
-    ensures { λ r. ⌜ r ≡ given (ltb room (length (stepList (tableOf (now (key .entry)) (now (size .entry)) (now (level .entry)) (now (kind .entry)) (now (name .entry)) count) (askOf axis test «test_name») (pairsOf (now (role .entry)) (now (row .entry)))))) 8 (length (stepList (tableOf (now (key .entry)) (now (size .entry)) (now (level .entry)) (now (kind .entry)) (now (name .entry)) count) (askOf axis test «test_name») (pairsOf (now (role .entry)) (now (row .entry))))) ⌝ }
+    requires { ⌜ Steps (tableOf (now key) (now size) (now level) (now kind) (now name) count)
+        (askOf axis test «test_name») (now up) (now role) (now row) ⌝ }
+    ensures { λ r. ⌜ r ≡ given (ltb room (length (stepList
+        (tableOf (now (key .entry)) (now (size .entry)) (now (level .entry))
+        (now (kind .entry)) (now (name .entry)) count)
+        (askOf axis test «test_name») (pairsOf (now (role .entry)) (now (row .entry)))))) 8
+        (length (stepList
+        (tableOf (now (key .entry)) (now (size .entry)) (now (level .entry))
+        (now (kind .entry)) (now (name .entry)) count)
+        (askOf axis test «test_name») (pairsOf (now (role .entry)) (now (row .entry))))) ⌝ }
 {
     if surely_fits(
         key,

@@ -1,11 +1,12 @@
 // A set of rows: 64 words of 64 bits, and a word `used` that says which of them hold a row.
 use crate::want::fits_row;
 ghost use mathlib.Core.Path.{_≡_};
-ghost use Prim.Native.Nat.{_+_, _<_};
+ghost use Prim.Native.Nat.{_+_, _*_, _<_};
 ghost use lib.ListN.{length};
 ghost use Rattle.tree.specs.Search.{gather};
 ghost use Rattle.step.specs.Reach.{Wrote};
-ghost use Rattle.step.specs.RowSet.{has, RowSet, Added, wordFits, WordDrains, Drains, Drained};
+ghost use Rattle.step.specs.RowSet.{has, RowSet, Added, inWord, wordFits, WordDrains, Drains, Drained};
+ghost use Rattle.step.specs.Mark.{Joined};
 
 // Whether row x is in the set.
 pub fn holds(words: &[u64; 64], x: usize) -> bool
@@ -30,6 +31,23 @@ fn add_row(words: &mut [u64], used: u64, x: usize) -> u64
 {
     let j = x / 64;
     words[j] = words[j] | (1 << (x % 64));
+    used | (1 << j)
+}
+
+// Puts rows of word j into the set, those whose bits are set, at least one; answers the new `used`.
+pub fn add_bits(words: &mut [u64; 64], used: u64, j: usize, bits: u64) -> u64
+    requires { ⌜ (j < 64) × RowSet (now words) used × (bits ≡ 0 → ⊥) ⌝ }
+    ensures { λ r. ⌜ Joined (inWord (64 * j) bits) (now (words .entry)) (now (words .exit)) r ⌝ }
+{
+    add_word(words, used, j, bits)
+}
+
+// What `add_bits` does, on the words as a slice, whose length its contract can name.
+fn add_word(words: &mut [u64], used: u64, j: usize, bits: u64) -> u64
+    requires { ⌜ (length (now words) ≡ 64) × (j < 64) × RowSet (now words) used × (bits ≡ 0 → ⊥) ⌝ }
+    ensures { λ r. ⌜ Joined (inWord (64 * j) bits) (now (words .entry)) (now (words .exit)) r ⌝ }
+{
+    words[j] = words[j] | bits;
     used | (1 << j)
 }
 

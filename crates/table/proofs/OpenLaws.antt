@@ -92,7 +92,9 @@ module _ (t : Table) (u : InUse t) where
         last = root;
         places = length-set ends 0 _ ∙ p;
         kept = λ j l. let z : j ≡ 0 = omega arith in rw z (record {
-          levels = level-back (t .level) 0 (record { root = λ _. root; later = λ q. absurd (omega arith); low = omega arith });
+          levels =
+              level-back (t .level) 0
+              (record { root = λ _. root; later = λ q. absurd (omega arith); low = omega arith });
           others = a .1;
         });
         sizes = λ j l. let z : j ≡ 0 = omega arith in inr (record {

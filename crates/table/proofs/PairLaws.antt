@@ -1,5 +1,5 @@
--- The check of pairs whose columns have one length of at most 4,096: order, then rows (`pair-check-is`); without a wrong
--- place they pass (`pairs-pass`). The order place by place: `order-first`, `order-next`. Assumes nothing.
+-- The check of pairs whose columns have one length of at most 4,096: order, then rows (`pair-check-is`); without a
+-- wrong place they pass (`pairs-pass`). The order place by place: `order-first`, `order-next`. Assumes nothing.
 use mathlib.Core.Path.{_≡_, refl, sym, ap, ap₂, _∙_}
 use mathlib.Core.Bool.{Bool, true, false, not, _&&_, _||_, and-false}
 use mathlib.Core.List.{List}
@@ -43,7 +43,8 @@ order-next role row i h e =
     below-more _ _ h (ap (λ (b : Bool). not (eqb i 0) && b) e ∙ and-false (not (eqb i 0)))
 
 -- pairs without a wrong place pass
-pub pairs-pass : (role row : List ℕ) (n : ℕ) → length role ≡ length row → length role ≤ 4096 → Ordered role row → Inside row n
+pub pairs-pass : (role row : List ℕ) (n : ℕ) → length role ≡ length row → length role ≤ 4096 → Ordered role row
+    → Inside row n
     → pairCheck role row n ≡ Passed
 unfolding givenAt given next
 pairs-pass role row n e l o i =

@@ -1,6 +1,6 @@
--- The least unsound row as the smaller of two searches, so that the keys have a pass of their own. That the two make 01's
--- least unsound row is in the proof of `first_bad`, by `least-both`. And the least row of a piece whose key is taken.
--- Assumes nothing.
+-- The least unsound row as the smaller of two searches, so that the keys have a pass of their own. That the two make
+-- 01's least unsound row is in the proof of `first_bad`, by `least-both`. And the least row of a piece whose key is
+-- taken. Assumes nothing.
 use Prim.Native.Nat.{ℕ}
 use mathlib.Core.Bool.{not}
 use mathlib.Core.List.{List}

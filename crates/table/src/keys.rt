@@ -48,8 +48,8 @@ pub fn fresh(key: &[usize], heads: &[u16; 16384], next: &[u16; 4096], i: usize, 
     true
 }
 
-// The least of the first n rows whose key is 0 or that of an earlier row, or n. The time is that of the rows, on keys that
-// spread over the buckets; on others it grows with the longest chain.
+// The least of the first n rows whose key is 0 or that of an earlier row, or n. The time is that of the rows, on
+// keys that spread over the buckets; on others it grows with the longest chain.
 pub fn first_key(key: &[usize], n: usize) -> usize
     requires { ⌜ (n ≤ 4096) × (n ≤ length (now key)) ⌝ }
     ensures { λ r. ⌜ r ≡ firstKey (now (key .entry)) n ⌝ }

@@ -1,5 +1,5 @@
-// What every call checks first, and finding a row by its key: document 01, "The table" and "Finding and editing by key".
-// No column is changed.
+// What every call checks first, and finding a row by its key: document 01, "The table" and "Finding and editing by
+// key". No column is changed.
 ghost use mathlib.Core.Path.{_≡_};
 ghost use Prim.Native.Nat.{_≤_};
 ghost use lib.ListN.{length};
@@ -24,7 +24,9 @@ pub fn check(
     name: &[usize],
     count: usize,
 ) -> Checked
-    ensures { λ r. ⌜ r ≡ checkOutcome (tableOf (now (key .entry)) (now (size .entry)) (now (level .entry)) (now (kind .entry)) (now (name .entry)) count) ⌝ }
+    ensures { λ r. ⌜ r ≡ checkOutcome
+        (tableOf (now (key .entry)) (now (size .entry)) (now (level .entry))
+        (now (kind .entry)) (now (name .entry)) count) ⌝ }
 {
     if !rows::count_ok(key, size, level, kind, name, count) {
         return Checked::Refused(1, 0);
@@ -58,7 +60,9 @@ pub fn find(
     count: usize,
     wanted: usize,
 ) -> Found
-    ensures { λ r. ⌜ r ≡ findOutcome (tableOf (now (key .entry)) (now (size .entry)) (now (level .entry)) (now (kind .entry)) (now (name .entry)) count) wanted ⌝ }
+    ensures { λ r. ⌜ r ≡ findOutcome
+        (tableOf (now (key .entry)) (now (size .entry)) (now (level .entry))
+        (now (kind .entry)) (now (name .entry)) count) wanted ⌝ }
 {
     let checked = check(key, size, level, kind, name, count);
     match checked {

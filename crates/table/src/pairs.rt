@@ -1,5 +1,5 @@
-// The pairs of role and row that a caller hands in: document 01, "The step", refusals 3, 4 and 5. Two passes without a branch
-// show that most lists are right; only a list that fails is searched for its least wrong place.
+// The pairs of role and row that a caller hands in: document 01, "The step", refusals 3, 4 and 5. Two passes
+// without a branch show that most lists are right; only a list that fails is searched for its least wrong place.
 ghost use mathlib.Core.Path.{_≡_};
 ghost use mathlib.Core.Bool.{false, not};
 ghost use Prim.Native.Nat.{_<_, _≤_};
@@ -21,7 +21,8 @@ pub fn comes_before(r: usize, v: usize, q: usize, w: usize) -> bool
     either(r < q, both(r == q, v < w))
 }
 
-// Whether some pair is less than the one before it: false only where none is. All places are looked at without a branch.
+// Whether some pair is less than the one before it: false only where none is. All places are looked at without a
+// branch.
 pub fn falls_somewhere(role: &[usize], row: &[usize]) -> bool
     requires { ⌜ length (now role) ≤ length (now row) ⌝ }
     ensures { λ r. ⌜ (r ≡ false → Ordered (now (role .entry)) (now (row .entry))) ⌝ }

@@ -11,8 +11,8 @@ use crate::logic::both;
 use crate::rows::kind_ok;
 use crate::rows::name_ok;
 
-// Whether a later row keeps the rules of level, kind and name after a row of level top, with a size that is no more than
-// a table has rows. Most rows are elements, so they come first.
+// Whether a later row keeps the rules of level, kind and name after a row of level top, with a size that is no more
+// than a table has rows. Most rows are elements, so they come first.
 pub fn row_fits(own: usize, top: usize, kind: usize, size: usize, name: usize, i: usize) -> bool
     requires { ⌜ top < 64 ⌝ }
     ensures { λ r. ⌜ r ≡ rowFits own top kind size name i ⌝ }
@@ -70,7 +70,9 @@ pub fn all_fit(
     count: usize,
 ) -> bool
     requires { ⌜ InUse (tableOf (now key) (now size) (now level) (now kind) (now name) count) ⌝ }
-    ensures { λ r. ⌜ (r ≡ true → firstRest (tableOf (now (key .entry)) (now (size .entry)) (now (level .entry)) (now (kind .entry)) (now (name .entry)) count) ≡ count) ⌝ }
+    ensures { λ r. ⌜ (r ≡ true → firstRest
+        (tableOf (now (key .entry)) (now (size .entry)) (now (level .entry))
+        (now (kind .entry)) (now (name .entry)) count) ≡ count) ⌝ }
 {
     let held = size[0];
     if !root_fits(level[0], kind[0], held, name[0]) {

@@ -19,7 +19,9 @@ pub fn shortest(
     name: &[usize],
     count: usize,
 ) -> usize
-    ensures { λ r. ⌜ r ≡ shortest (tableOf (now (key .entry)) (now (size .entry)) (now (level .entry)) (now (kind .entry)) (now (name .entry)) count) ⌝ }
+    ensures { λ r. ⌜ r ≡ shortest
+        (tableOf (now (key .entry)) (now (size .entry)) (now (level .entry))
+        (now (kind .entry)) (now (name .entry)) count) ⌝ }
 {
     smaller(
         key.len(),
@@ -39,7 +41,9 @@ pub fn count_ok(
     name: &[usize],
     count: usize,
 ) -> bool
-    ensures { λ r. ⌜ r ≡ countOk (tableOf (now (key .entry)) (now (size .entry)) (now (level .entry)) (now (kind .entry)) (now (name .entry)) count) ⌝ }
+    ensures { λ r. ⌜ r ≡ countOk
+        (tableOf (now (key .entry)) (now (size .entry)) (now (level .entry))
+        (now (kind .entry)) (now (name .entry)) count) ⌝ }
 {
     both(
         both(1 <= count, count <= 4096),
@@ -130,7 +134,9 @@ pub fn rest_ok(
 ) -> bool
     requires { ⌜ i < count ⌝ }
     requires { ⌜ InUse (tableOf (now key) (now size) (now level) (now kind) (now name) count) ⌝ }
-    ensures { λ r. ⌜ r ≡ restOk (tableOf (now (key .entry)) (now (size .entry)) (now (level .entry)) (now (kind .entry)) (now (name .entry)) count) i ⌝ }
+    ensures { λ r. ⌜ r ≡ restOk
+        (tableOf (now (key .entry)) (now (size .entry)) (now (level .entry))
+        (now (kind .entry)) (now (name .entry)) count) i ⌝ }
 {
     both(
         both(
@@ -151,7 +157,9 @@ pub fn search_rest(
     count: usize,
 ) -> usize
     requires { ⌜ InUse (tableOf (now key) (now size) (now level) (now kind) (now name) count) ⌝ }
-    ensures { λ r. ⌜ r ≡ firstRest (tableOf (now (key .entry)) (now (size .entry)) (now (level .entry)) (now (kind .entry)) (now (name .entry)) count) ⌝ }
+    ensures { λ r. ⌜ r ≡ firstRest
+        (tableOf (now (key .entry)) (now (size .entry)) (now (level .entry))
+        (now (kind .entry)) (now (name .entry)) count) ⌝ }
 {
     let mut i = 0;
     while i < count {
@@ -173,7 +181,9 @@ pub fn first_rest(
     count: usize,
 ) -> usize
     requires { ⌜ InUse (tableOf (now key) (now size) (now level) (now kind) (now name) count) ⌝ }
-    ensures { λ r. ⌜ r ≡ firstRest (tableOf (now (key .entry)) (now (size .entry)) (now (level .entry)) (now (kind .entry)) (now (name .entry)) count) ⌝ }
+    ensures { λ r. ⌜ r ≡ firstRest
+        (tableOf (now (key .entry)) (now (size .entry)) (now (level .entry))
+        (now (kind .entry)) (now (name .entry)) count) ⌝ }
 {
     if crate::pass::all_fit(key, size, level, kind, name, count) {
         return count;
@@ -191,7 +201,9 @@ pub fn first_bad(
     count: usize,
 ) -> usize
     requires { ⌜ InUse (tableOf (now key) (now size) (now level) (now kind) (now name) count) ⌝ }
-    ensures { λ r. ⌜ r ≡ firstBad (tableOf (now (key .entry)) (now (size .entry)) (now (level .entry)) (now (kind .entry)) (now (name .entry)) count) ⌝ }
+    ensures { λ r. ⌜ r ≡ firstBad
+        (tableOf (now (key .entry)) (now (size .entry)) (now (level .entry))
+        (now (kind .entry)) (now (name .entry)) count) ⌝ }
 {
     smaller(
         first_rest(key, size, level, kind, name, count),

@@ -1,11 +1,11 @@
--- The axes of rows whose levels and sizes make a tree, by sizes, as tests that an engine computes: `ancestor-is`, `following-is`, `preceding-is`.
+-- The axes of rows whose levels and sizes make a tree, by sizes, as tests that an engine computes: `ancestor-is`,
+-- `following-is`, `preceding-is`.
 -- Assumes nothing.
-use mathlib.Core.Path.{_≡_, refl, sym, ap, ap₂, _∙_}
+use mathlib.Core.Path.{_≡_, refl, sym, ap, _∙_}
 use mathlib.Core.Bool.{Bool, true, false, not, _&&_, true≢false}
-use Prim.Native.Nat.{ℕ, zero, suc, _+_, _<_, _≤_}
+use Prim.Native.Nat.{ℕ, _+_, _<_}
 use native.Mathlib.Omega.{arith}
-use native.Mathlib.Decide.{decLt, decLe}
-use borrow.Author.Tests.{ltb-true, ltb-false, lt-ltb, le-ltb, leb-true, leb-false, le-leb, lt-leb}
+use borrow.Author.Tests.{ltb-true, ltb-false, lt-ltb, le-ltb, leb-true, leb-false, le-leb}
 use lib.Dec.{ltb, leb}
 use mathlib.Core.List.{List}
 use Rattle.tree.specs.Table.{at}
@@ -21,6 +21,7 @@ same-test false true h g = absurd (true≢false (sym (g refl)))
 same-test false false h g = refl
 
 module _ {size level : List ℕ} {n : ℕ} (s : Shape size level n) (c w : ℕ) (m : c < n) (l : w < n) where
+  -- the rows that c stands above are the next size rows
   pub ancestor-is : ancestor level c w ≡ (ltb c w && leb w (c + at size c))
   ancestor-is = same-test _ _
       (λ e. let d = shape-descendants s c w m l .0 e in both-of (lt-ltb c w (d .0)) (le-leb w (c + at size c) (d .1)))

@@ -1,23 +1,24 @@
--- What the kept count counts, in 01's words: the pairs that remain are given ones, each once (`kept-once`), and a given one
--- remains exactly if it is not redundant: `kept-below` on axes 3 and 4, `kept-above` on 6 and 7, `kept-one` and `kept-same`
--- (one pair per role) on 8 and 9, `kept-all` on the others. `kept-split`: roles are counted apart.
--- Assumes nothing.
+-- What the kept count counts, in 01's words: the pairs that remain are given ones, each once (`kept-once`), and
+-- a given one remains exactly if it is not redundant: `kept-below` on axes 3 and 4, `kept-above` on 6 and 7,
+-- `kept-one` and `kept-same` (one pair per role) on 8 and 9, `kept-all` on the others. `kept-split`: roles are
+-- counted apart. Assumes nothing.
 use mathlib.Core.Path.{_≡_, refl, sym, ap, ap₂, subst, _∙_}
 use mathlib.Core.Logic.{_⊎_, inl, inr, ⊎-elim, _↔_}
 use mathlib.Core.Bool.{Bool, true, false, cond, _&&_, _||_, true≢false}
 use mathlib.Core.List.{List, [], _∷_, _++_}
 use Prim.Native.Nat.{ℕ, _+_, _<_, _≤_}
-use native.Mathlib.Nat.{le-refl, le-antisymm}
+use native.Mathlib.Nat.{le-antisymm}
 use native.Mathlib.Omega.{arith}
-use borrow.Author.Tests.{eqb-true, eqb-false, eq-eqb, ne-eqb, ltb-true, ltb-false, lt-ltb, le-ltb}
+use borrow.Author.Tests.{eqb-true, eq-eqb, ne-eqb, ltb-false, le-ltb}
 use lib.Dec.{eqb, ltb}
 use lib.ListN.{length, length-append}
 use Rattle.tree.specs.Tree.{ancestor}
 use Rattle.tree.specs.Pairs.{Pair, pair, some}
 use Rattle.tree.specs.Kept.{drops, remaining, keptCount}
-use Rattle.tree.proofs.SoundLaws.{either, either-left, either-right}
+use Rattle.tree.proofs.SoundLaws.{either}
 use Rattle.tree.proofs.AcceptLaws.{neither}
 use Rattle.tree.proofs.StepLaws.{In, some-in}
+use Rattle.tree.proofs.LowestLaws.{lowest}
 use Rattle.tree.proofs.SplitLaws.{RolesBelow}
 
 -- each stands once
@@ -25,53 +26,8 @@ abbrev pub Once : List Pair → Type 0
 Once [] = Unit {0}
 Once (p ∷ ps) = (In p ps → ⊥) × Once ps
 
--- a role's pair on its least row
-record Lowest (r : ℕ) (ps : List Pair) : Type 0 where
-  row : ℕ
-  held : In (pair r row) ps
-  least : (d : ℕ) → In (pair r d) ps → row ≤ d
-
-lowest : (r : ℕ) (ps : List Pair) (c : ℕ) → In (pair r c) ps → Lowest r ps
-lowest r [] c i = absurd i
-lowest r (x ∷ xs) c i = go (some (λ _. true) r xs) refl (lowest r xs) i
-  where
-    row-is : (d : ℕ) → pair r d ≡ x → d ≡ x .row
-    row-is d e = ap (λ (p : Pair). p .row) e
-
-    among : Lowest r xs → (a : Bool) → eqb (x .role) r ≡ a → Lowest r (x ∷ xs)
-    among m true p = better (ltb (x .row) (m .row)) refl
-      where
-        better : (b : Bool) → ltb (x .row) (m .row) ≡ b → Lowest r (x ∷ xs)
-        better true e = record {
-          row = x .row;
-          held = inl (ap (λ (q : ℕ). pair q (x .row)) (sym (eqb-true _ _ p)));
-          least = λ d. ⊎-elim (λ j. let z = row-is d j in omega arith)
-              (λ j. omega (arith, ltb-true (x .row) (m .row) e, m .least d j));
-        }
-        better false e = record {
-          row = m .row;
-          held = inr (m .held);
-          least = λ d. ⊎-elim (λ j. let z = row-is d j in omega (arith, ltb-false (x .row) (m .row) e)) (m .least d);
-        }
-    among m false p = record {
-      row = m .row;
-      held = inr (m .held);
-      least = λ d. ⊎-elim (λ j. absurd (eqb-false _ _ p (sym (ap (λ (q : Pair). q .role) j)))) (m .least d);
-    }
-
-    go : (b : Bool) → some (λ _. true) r xs ≡ b → ((d : ℕ) → In (pair r d) xs → Lowest r xs) → In (pair r c) (x ∷ xs)
-        → Lowest r (x ∷ xs)
-    go true e ih j =
-        let h = some-in (λ _. true) r xs .0 e in among (ih (h .0) (h .1)) (eqb (x .role) r) refl
-    go false e ih (inl j) = record {
-      row = c;
-      held = inl j;
-      least = λ d. ⊎-elim (λ k. let z = row-is d k in let y = row-is c j in omega arith)
-          (λ k. absurd (true≢false (sym (some-in (λ _. true) r xs .1 (d, k, refl)) ∙ e)));
-    }
-    go false e ih (inr j) = absurd (true≢false (sym (some-in (λ _. true) r xs .1 (c, j, refl)) ∙ e))
-
 module _ (axis : ℕ) (level : List ℕ) where
+  -- a pair is redundant among all
   abbrev dropped : List Pair → Pair → Bool
   dropped all p = some (drops axis level (p .row)) (p .role) all
 
@@ -79,14 +35,17 @@ module _ (axis : ℕ) (level : List ℕ) where
   abbrev again : Pair → List Pair → Bool
   again p ps = some (λ c. eqb c (p .row)) (p .role) ps
 
+  -- then it is one of them
   again-in : (p : Pair) (ps : List Pair) → again p ps ≡ true → In p ps
   again-in p ps e =
       let h = some-in (λ c. eqb c (p .row)) (p .role) ps .0 e in
       subst (λ (c : ℕ). In (pair (p .role) c) ps) (eqb-true _ _ (h .2)) (h .1)
 
+  -- and the other way about
   in-again : (p : Pair) (ps : List Pair) → In p ps → again p ps ≡ true
   in-again p ps i = some-in (λ c. eqb c (p .row)) (p .role) ps .1 (p .row, i, eq-eqb (p .row) (p .row) refl)
 
+  -- those of ps remain that are not redundant
   remaining-in : (all ps : List Pair) (q : Pair)
       → In q (remaining axis level all ps) ↔ (In q ps × (dropped all q ≡ false))
   unfolding remaining
@@ -119,6 +78,7 @@ module _ (axis : ℕ) (level : List ℕ) where
           go false e (inl j) ih = inl j
           go false e (inr j) ih = inr (ih j)
 
+  -- each once
   remaining-once : (all ps : List Pair) → Once (remaining axis level all ps)
   unfolding remaining
   remaining-once all [] = tt
@@ -136,6 +96,7 @@ module _ (axis : ℕ) (level : List ℕ) where
   abbrev pub kept : List Pair → List Pair
   kept ps = remaining axis level ps ps
 
+  -- each pair counts once
   pub kept-once : (ps : List Pair) → Once (kept ps)
   kept-once ps = remaining-once ps ps
 
@@ -143,6 +104,7 @@ module _ (axis : ℕ) (level : List ℕ) where
   abbrev pub Free : List Pair → Pair → (ℕ → Bool) → Type 0
   Free ps p f = (d : ℕ) → In (pair (p .role) d) ps → f d ≡ false
 
+  -- no pair of the role passes
   some-free : (f : ℕ → Bool) (ps : List Pair) (p : Pair) → (some f (p .role) ps ≡ false) ↔ Free ps p f
   some-free f ps p = (
     λ e d i. go (f d) refl e i,
@@ -158,6 +120,7 @@ module _ (axis : ℕ) (level : List ℕ) where
           let w = some-in f (p .role) ps .0 e in absurd (true≢false (sym (w .2) ∙ h (w .0) (w .1)))
       none false e h = e
 
+  -- a pair remains exactly if f holds of no pair of its role, where f says what makes it redundant
   kept-by : (ps : List Pair) (p : Pair) (f : ℕ → Bool) → ((d : ℕ) → drops axis level (p .row) d ≡ f d)
       → In p (kept ps) ↔ (In p ps × Free ps p f)
   kept-by ps p f h = (
@@ -202,17 +165,20 @@ module _ (axis : ℕ) (level : List ℕ) where
   kept-same g ps p q i j e =
       let a = kept-least g ps p .0 i in
       let b = kept-least g ps q .0 j in
-      let u : p .row ≤ q .row = ltb-false _ _ (a .1 (q .row) (subst (λ (r : ℕ). In (pair r (q .row)) ps) (sym e) (b .0))) in
+      let u : p .row ≤ q .row =
+      ltb-false _ _ (a .1 (q .row) (subst (λ (r : ℕ). In (pair r (q .row)) ps) (sym e) (b .0))) in
       let v : q .row ≤ p .row = ltb-false _ _ (b .1 (p .row) (subst (λ (r : ℕ). In (pair r (p .row)) ps) e (a .0))) in
       ap₂ pair e (le-antisymm u v)
 
   -- and every role that has a pair keeps one
-  pub kept-one : (axis ≡ 8) ⊎ (axis ≡ 9) → (ps : List Pair) (p : Pair) → In p ps → (c : ℕ) × In (pair (p .role) c) (kept ps)
+  pub kept-one : (axis ≡ 8) ⊎ (axis ≡ 9) → (ps : List Pair) (p : Pair) → In p ps
+      → (c : ℕ) × In (pair (p .role) c) (kept ps)
   kept-one g ps p i =
       let m = lowest (p .role) ps (p .row) i in
       (m .row, kept-least g ps (pair (p .role) (m .row)) .1 (m .held, λ d j. le-ltb d (m .row) (m .least d j)))
 
 -- ── roles are counted apart ──
+-- some of two lists
 some-append : (f : ℕ → Bool) (r : ℕ) (xs ys : List Pair) → some f r (xs ++ ys) ≡ (some f r xs || some f r ys)
 unfolding some
 some-append f r [] ys = refl
@@ -224,6 +190,7 @@ some-append f r (x ∷ xs) ys =
     or-assoc true b c = refl
     or-assoc false b c = refl
 
+-- none of another role
 some-none : (f : ℕ → Bool) (r : ℕ) (ys : List Pair) → ((q : Pair) → In q ys → q .role ≡ r → ⊥) → some f r ys ≡ false
 unfolding some
 some-none f r [] h = refl
@@ -231,6 +198,7 @@ some-none f r (y ∷ ys) h =
     ap₂ (λ (a b : Bool). (a && f (y .row)) || b) (ne-eqb (y .role) r (h y (inl refl)))
     (some-none f r ys (λ q i. h q (inr i)))
 
+-- nothing added
 or-no : (b : Bool) → (b || false) ≡ b
 or-no true = refl
 or-no false = refl
@@ -259,6 +227,7 @@ remaining-among axis level all few (p ∷ ps) tail h g =
     over true = refl
     over false = refl
 
+-- the same, where all and few have the same pairs of these roles
 remaining-ext : (axis : ℕ) (level : List ℕ) (all few ps : List Pair)
     → ((f : ℕ → Bool) (p : Pair) → In p ps → some f (p .role) all ≡ some f (p .role) few)
     → remaining axis level all ps ≡ remaining axis level few ps
@@ -268,6 +237,7 @@ remaining-ext axis level all few (p ∷ ps) h =
     ap₂ (λ (b : Bool) (l : List Pair). cond (b || some (λ c. eqb c (p .row)) (p .role) ps) l (p ∷ l))
     (h (drops axis level (p .row)) p (inl refl)) (remaining-ext axis level all few ps (λ f q i. h f q (inr i)))
 
+-- lists without a common role are counted apart
 pub kept-split : (axis : ℕ) (level : List ℕ) (xs ys : List Pair) → RolesBelow xs ys
     → keptCount axis level (xs ++ ys) ≡ keptCount axis level xs + keptCount axis level ys
 unfolding keptCount

@@ -1,17 +1,17 @@
 -- What the levels alone decide in rows that make a tree: the sizes (`sizes-only`), and how many ancestors a row has
--- (`ancestors-count`), so that at most 64 rows are open at a time (`open-most`). `ancestor-step`: the ancestors of a row
--- are its parent and the parent's ancestors.
+-- (`ancestors-count`), so that at most 64 rows are open at a time (`open-most`). `ancestor-step`: the ancestors of
+-- a row are its parent and the parent's ancestors.
 -- Assumes nothing.
 use mathlib.Core.Path.{_≡_, refl, sym, ap, ap₂, _∙_}
 use mathlib.Core.Logic.{_⊎_, inl, inr, ⊎-elim}
-use mathlib.Core.Bool.{Bool, true, false, _||_, true≢false}
+use mathlib.Core.Bool.{Bool, true, false, _||_}
 use mathlib.Core.List.{List, [], _∷_}
 use Prim.Native.Nat.{ℕ, zero, suc, _+_, _-_, _<_, _≤_}
 use native.Mathlib.Nat.{le-refl, le-of-suc-le-suc, not-suc-le-zero, eq-or-lt-of-le}
 use native.Mathlib.Numerals.{add-one}
 use native.Mathlib.Omega.{arith}
 use native.Mathlib.Decide.{ℕ-discrete, decLt}
-use borrow.Author.Tests.{eqb-true, eqb-false, eq-eqb, ne-eqb}
+use borrow.Author.Tests.{eqb-true, eq-eqb, ne-eqb}
 use lib.Dec.{eqb, leb}
 use lib.ListN.{length, length-append}
 use Rattle.tree.specs.Search.{gather, only}
@@ -19,12 +19,15 @@ use Rattle.tree.specs.Table.{at}
 use Rattle.tree.specs.Sound.{sizeOf}
 use Rattle.tree.specs.Rules.{Shape}
 use Rattle.tree.specs.Tree.{parent, ancestor}
-use Rattle.tree.proofs.SearchLaws.{least-ext, gather-zero, gather-suc, gather-no, gather-yes, gather-ext, gather-skip}
-use Rattle.tree.proofs.TreeLaws.{Under, rest, rest-at, size-least, from-parent, under-parent, ancestor-under, parent-below, parent-less}
+use Rattle.tree.proofs.SearchLaws.{least-ext, gather-zero, gather-suc, gather-no, gather-yes, gather-ext}
+use Rattle.tree.proofs.SearchLaws.{gather-skip}
+use Rattle.tree.proofs.TreeLaws.{Under, rest-at, size-least, from-parent, under-parent, ancestor-under}
+use Rattle.tree.proofs.TreeLaws.{parent-below, parent-less}
 use Rattle.tree.proofs.SoundLaws.{shape-steps, either, either-left, either-right}
 use Rattle.tree.proofs.AxisLaws.{same-test}
 
 -- ── the sizes ──
+-- columns that agree on the rows in use give the same sizes
 size-ext : (a b : List ℕ) (n c : ℕ) → n ≤ length a → n ≤ length b → c < n → ((i : ℕ) → i < n → at a i ≡ at b i)
     → sizeOf a n c ≡ sizeOf b n c
 size-ext a b n c k l m h =
@@ -41,6 +44,7 @@ sizes-only {n = n} s s′ h i l =
 
 -- ── the ancestors ──
 module _ {size level : List ℕ} {n : ℕ} (s : Shape size level n) where
+  -- what a row is under is its parent, or what its parent is under
   under-step : (c w p : ℕ) → w < n → parent level w ≡ suc p → Under level c w → (c ≡ p) ⊎ Under level c p
   under-step c w p l e u = elim (ℕ-discrete c p) [
     | yes q ↦ inl q
@@ -55,6 +59,7 @@ module _ {size level : List ℕ} {n : ℕ} (s : Shape size level n) where
     ]
   ]
 
+  -- and the other way about
   under-up : (c w p : ℕ) → Under level p w → Under level c p → Under level c w
   under-up c w p a b = record {
     after = omega (arith, a .after, b .after);
@@ -64,6 +69,7 @@ module _ {size level : List ℕ} {n : ℕ} (s : Shape size level n) where
     ];
   }
 
+  -- the ancestors of a row are its parent and the parent's ancestors
   pub ancestor-step : (c w p : ℕ) → w < n → parent level w ≡ suc p
       → ancestor level c w ≡ (eqb c p || ancestor level c p)
   ancestor-step c w p l e =
@@ -101,10 +107,13 @@ gather-one-more f g p a b h (suc n) l =
   where
     here : p ≡ n → length (gather g (suc n)) ≡ suc (length (gather f (suc n)))
     here e =
-        ap length (gather-yes g n (ap g (sym e) ∙ b)) ∙ length-append (gather g n) (n ∷ []) ∙ add-one (length (gather g n))
-        ∙ ap (λ (l : List ℕ). suc (length l)) (gather-ext g f n (λ c m. h c (λ q. omega arith)) ∙ sym (gather-no f n (ap f (sym e) ∙ a)))
+        ap length (gather-yes g n (ap g (sym e) ∙ b)) ∙ length-append (gather g n) (n ∷ [])
+        ∙ add-one (length (gather g n))
+        ∙ ap (λ (l : List ℕ). suc (length l))
+        (gather-ext g f n (λ c m. h c (λ q. omega arith)) ∙ sym (gather-no f n (ap f (sym e) ∙ a)))
 
-    there : p < n → length (gather g n) ≡ suc (length (gather f n)) → length (gather g (suc n)) ≡ suc (length (gather f (suc n)))
+    there : p < n → length (gather g n) ≡ suc (length (gather f n))
+        → length (gather g (suc n)) ≡ suc (length (gather f (suc n)))
     there m ih =
         let q : g n ≡ f n = h n (λ e. omega arith) in
         let u = ap length (gather-suc g n) ∙ length-append (gather g n) (only (g n) n) in
@@ -113,8 +122,11 @@ gather-one-more f g p a b h (suc n) l =
         omega arith
 
 module _ {size level : List ℕ} {n : ℕ} (s : Shape size level n) where
+  -- no row is its own ancestor
   not-own : (p : ℕ) → p < n → ancestor level p p ≡ false
-  not-own p l = not-true-false (ancestor level p p) (λ e. omega (arith, ancestor-under level n (shape-steps s) p p l .0 e .after))
+  not-own p l =
+      not-true-false (ancestor level p p)
+      (λ e. omega (arith, ancestor-under level n (shape-steps s) p p l .0 e .after))
     where
       not-true-false : (b : Bool) → (b ≡ true → ⊥) → b ≡ false
       not-true-false true h = absurd (h refl)
@@ -139,7 +151,8 @@ module _ {size level : List ℕ} {n : ℕ} (s : Shape size level n) where
           let b : p .0 < w = parent-below level w (p .0) (p .1) in
           gather-one-more (λ c. ancestor level c (p .0)) (λ c. ancestor level c w) (p .0) (not-own (p .0) (omega arith))
           (ancestor-step s (p .0) w (p .0) l (p .1) ∙ either-left _ (eq-eqb (p .0) (p .0) refl))
-          (λ c ne. ancestor-step s c w (p .0) l (p .1) ∙ ap (λ (b : Bool). b || ancestor level c (p .0)) (ne-eqb c (p .0) ne))
+          (λ c ne. ancestor-step s c w (p .0) l (p .1)
+          ∙ ap (λ (b : Bool). b || ancestor level c (p .0)) (ne-eqb c (p .0) ne))
           n (omega arith)
           ∙ ap suc (go k (p .0) (omega arith) (omega (arith, parent-less level w (p .0) (p .1))))
 

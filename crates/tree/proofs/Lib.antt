@@ -4,8 +4,10 @@ pub mod SoundLaws
 pub mod AxisLaws
 pub mod LevelLaws
 pub mod StepLaws
+pub mod AscendLaws
 pub mod RoleLaws
 pub mod SplitLaws
+pub mod LowestLaws
 pub mod KeptLaws
 pub mod AcceptLaws
 pub mod ColumnLaws
@@ -19,4 +21,5 @@ pub mod KeepLaws
 pub mod EditLaws
 pub mod EditSizes
 pub mod EditSound
+pub mod FarmCalls
 pub mod Farm

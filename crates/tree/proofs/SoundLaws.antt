@@ -1,28 +1,28 @@
--- Soundness in plain words, and that the executable definitions say the same: `row-ok` for a row, `table-passes` for a table.
--- Then what follows of levels and sizes, `shape-..`, and of a sound table, `sound-..`, `find-at`.
+-- Soundness in plain words, and that the executable definitions say the same: `row-ok` for a row, `table-passes` for
+-- a table. Then what follows of levels and sizes, `shape-..`, and of a sound table, `sound-..`, `find-at`.
 -- Assumes nothing.
-use mathlib.Core.Path.{_≡_, refl, sym, ap, subst, _∙_}
+use mathlib.Core.Path.{_≡_, refl, ap}
 use mathlib.Core.Logic.{_⊎_, inl, inr, ⊎-elim, _↔_}
-use mathlib.Core.Bool.{Bool, true, false, cond, not, _&&_, _||_, and-eq-true-iff, true≢false, false≢true}
+use mathlib.Core.Bool.{Bool, true, false, cond, not, _&&_, _||_, and-eq-true-iff}
 use mathlib.Core.List.{List}
-use Prim.Native.Nat.{ℕ, zero, suc, _+_, _-_, _<_, _≤_, min}
-use native.Mathlib.Nat.{le-refl}
+use Prim.Native.Nat.{ℕ, suc, _+_, _-_, _<_, _≤_}
 use native.Mathlib.Omega.{arith}
-use borrow.Author.Tests.{eqb-true, eqb-false, eq-eqb, ne-eqb, leb-true, leb-false, le-leb, lt-leb, ltb-true, ltb-false, le-ltb, lt-ltb, not-true, not-false}
-use lib.Dec.{eqb, leb, ltb}
-use lib.ListN.{length}
+use borrow.Author.Tests.{eqb-true, eqb-false, eq-eqb, ne-eqb, leb-true, leb-false, le-leb, ltb-false, le-ltb}
+use borrow.Author.Tests.{not-true, not-false}
+use lib.Dec.{eqb, leb}
 use Rattle.tree.specs.Search.{least}
 use Rattle.tree.specs.Table.{Table, at, shortest, countOk}
-use Rattle.tree.specs.Sound.{levelOk, sizeOf, sizeOk, kindOk, hasName, nameOk, rowOf, keyOk, restOk, rowOk, firstBad}
+use Rattle.tree.specs.Sound.{levelOk, sizeOf, sizeOk, kindOk, hasName, nameOk, rowOf, keyOk, restOk, rowOk}
+use Rattle.tree.specs.Sound.{firstBad}
 use Rattle.tree.specs.Rules.{LevelRule, KindRule, NameRule, KeyRule, SoundRow, Shape, InUse, Sound}
 use Rattle.tree.specs.Tree.{ancestor}
 use Rattle.tree.specs.Refusal.{given, next, tableCheck}
 use Rattle.tree.specs.declared.Checked.{Checked}
 use Rattle.tree.specs.declared.Checked.the-variants.{Passed, Refused}
-use Rattle.tree.proofs.SearchLaws.{least-none, least-below, least-le, least-at, least-passes}
+use Rattle.tree.proofs.SearchLaws.{least-none, least-below, least-at}
 use Rattle.tree.proofs.TreeLaws.{Steps, descendants, size-fits}
 
--- ── tests ──
+-- ── two tests in one ──
 pub both : (a b : Bool) → (a && b) ≡ true → (a ≡ true) × (b ≡ true)
 both a b e = and-eq-true-iff a b .0 e
 
@@ -43,13 +43,14 @@ either-right false p = p
 pub flip : {a : Bool} → a ≡ false → not a ≡ true
 flip p = ap not p
 
--- ── the five rules ──
+-- ── the rules: a test that passes says its rule, `..-there`, and the other way about, `..-back` ──
 pub level-there : (level : List ℕ) (i : ℕ) → levelOk level i ≡ true → LevelRule level i
 unfolding levelOk
 level-there level i e = go (eqb i 0) refl e
   where
     go : (b : Bool) → eqb i 0 ≡ b
-        → cond b (eqb (at level i) 0) (leb 1 (at level i) && leb (at level i) 63 && leb (at level i) (at level (i - 1) + 1)) ≡ true
+        → cond b (eqb (at level i) 0)
+        (leb 1 (at level i) && leb (at level i) 63 && leb (at level i) (at level (i - 1) + 1)) ≡ true
         → LevelRule level i
     go true p h =
         let z : at level i ≡ 0 = eqb-true _ _ h in
@@ -58,14 +59,19 @@ level-there level i e = go (eqb i 0) refl e
     go false p h =
         let a = both (leb 1 (at level i) && leb (at level i) 63) _ h in
         let b = both (leb 1 (at level i)) _ (a .0) in
-        record { root = λ q. absurd (eqb-false _ _ p q); later = λ l. (leb-true _ _ (b .0), leb-true _ _ (a .1)); low = leb-true _ _ (b .1) }
+        record {
+          root = λ q. absurd (eqb-false _ _ p q);
+          later = λ l. (leb-true _ _ (b .0), leb-true _ _ (a .1));
+          low = leb-true _ _ (b .1);
+        }
 
 pub level-back : (level : List ℕ) (i : ℕ) → LevelRule level i → levelOk level i ≡ true
 unfolding levelOk
 level-back level i h = go (eqb i 0) refl
   where
     go : (b : Bool) → eqb i 0 ≡ b
-        → cond b (eqb (at level i) 0) (leb 1 (at level i) && leb (at level i) 63 && leb (at level i) (at level (i - 1) + 1)) ≡ true
+        → cond b (eqb (at level i) 0)
+        (leb 1 (at level i) && leb (at level i) 63 && leb (at level i) (at level (i - 1) + 1)) ≡ true
     go true p = eq-eqb _ _ (h .root (eqb-true _ _ p))
     go false p =
         let q : i ≡ 0 → ⊥ = eqb-false _ _ p in
@@ -79,8 +85,10 @@ kind-there kind size i e =
     let b = both (leb kind 4) _ (a .0) in
     record {
       most = leb-true _ _ (b .0);
-      document = λ z. ⊎-elim (λ p. absurd (eqb-false kind 0 (not-true _ p) z)) (λ p. eqb-true _ _ p) (either _ _ (b .1));
-      leaf = λ l. ⊎-elim (λ p. let m : kind ≤ 1 = leb-true _ _ p in absurd (omega arith)) (λ p. eqb-true _ _ p) (either _ _ (a .1));
+      document = λ z. ⊎-elim
+          (λ p. absurd (eqb-false kind 0 (not-true _ p) z)) (λ p. eqb-true _ _ p) (either _ _ (b .1));
+      leaf = λ l. ⊎-elim
+          (λ p. let m : kind ≤ 1 = leb-true _ _ p in absurd (omega arith)) (λ p. eqb-true _ _ p) (either _ _ (a .1));
     }
 
 kind-back : (kind size i : ℕ) → KindRule kind size i → kindOk kind size i ≡ true
@@ -99,7 +107,8 @@ name-there : (kind name : ℕ) → nameOk kind name ≡ true → NameRule kind n
 unfolding nameOk hasName
 name-there kind name e = go (eqb kind 1) refl (eqb kind 4) refl e
   where
-    go : (a : Bool) → eqb kind 1 ≡ a → (b : Bool) → eqb kind 4 ≡ b → cond (a || b) (not (eqb name 0)) (eqb name 0) ≡ true → NameRule kind name
+    go : (a : Bool) → eqb kind 1 ≡ a → (b : Bool) → eqb kind 4 ≡ b
+        → cond (a || b) (not (eqb name 0)) (eqb name 0) ≡ true → NameRule kind name
     go true p b q h =
         let z : name ≡ 0 → ⊥ = eqb-false _ _ (not-true _ h) in
         record { element = λ _. z; instruction = λ _. z; none = λ u v. absurd (u (eqb-true _ _ p)) }
@@ -116,7 +125,8 @@ name-back : (kind name : ℕ) → NameRule kind name → nameOk kind name ≡ tr
 unfolding nameOk hasName
 name-back kind name h = go (eqb kind 1) refl (eqb kind 4) refl
   where
-    go : (a : Bool) → eqb kind 1 ≡ a → (b : Bool) → eqb kind 4 ≡ b → cond (a || b) (not (eqb name 0)) (eqb name 0) ≡ true
+    go : (a : Bool) → eqb kind 1 ≡ a → (b : Bool) → eqb kind 4 ≡ b
+        → cond (a || b) (not (eqb name 0)) (eqb name 0) ≡ true
     go true p b q = flip (ne-eqb _ _ (h .element (eqb-true _ _ p)))
     go false p true q = flip (ne-eqb _ _ (h .instruction (eqb-true _ _ q)))
     go false p false q = eq-eqb _ _ (h .none (eqb-false _ _ p) (eqb-false _ _ q))
@@ -162,10 +172,12 @@ row-ok t i = (there, back)
 
     back : SoundRow t i → rowOk t i ≡ true
     back h =
-        both-of (both-of (both-of (both-of (level-back _ i (h .levels)) (eq-eqb _ _ (h .sizes))) (kind-back _ _ i (h .kinds))) (name-back _ _ (h .names)))
+        both-of (both-of (both-of (both-of
+        (level-back _ i (h .levels)) (eq-eqb _ _ (h .sizes))) (kind-back _ _ i (h .kinds))) (name-back _ _ (h .names)))
         (key-back _ i (h .keys))
 
 -- ── the table ──
+-- the count fits exactly if it is 1 to 4,096 and within every column
 pub count-ok : (t : Table) → (countOk t ≡ true) ↔ InUse t
 unfolding countOk shortest
 count-ok t = (there, λ h. both-of (both-of (le-leb _ _ (h .some)) (le-leb _ _ (h .few))) (le-leb _ _ (short h)))
@@ -177,19 +189,30 @@ count-ok t = (there, λ h. both-of (both-of (le-leb _ _ (h .some)) (le-leb _ _ (
         let l : 1 ≤ t .count = leb-true _ _ (b .0) in
         let m : t .count ≤ 4096 = leb-true _ _ (b .1) in
         let s : t .count ≤ shortest t = leb-true _ _ (a .1) in
-        record { some = l; few = m; in-key = omega arith; in-size = omega arith; in-level = omega arith; in-kind = omega arith; in-name = omega arith }
+        record {
+          some = l;
+          few = m;
+          in-key = omega arith;
+          in-size = omega arith;
+          in-level = omega arith;
+          in-kind = omega arith;
+          in-name = omega arith;
+        }
 
     short : InUse t → t .count ≤ shortest t
     short h = omega (arith, h .in-key, h .in-size, h .in-level, h .in-kind, h .in-name)
 
+-- a refusal is not a pass
 refused-passed : {m p : ℕ} → Refused m p ≡ Passed → ⊥
 refused-passed e = let y : _≡_ {A = ℕ} 0 1 = cc in omega arith
 
+-- what passed had no reason to be refused
 pub given-passed : (b : Bool) (m p : ℕ) → given b m p ≡ Passed → b ≡ false
 unfolding given
 given-passed true m p e = absurd (refused-passed e)
 given-passed false m p e = refl
 
+-- without a reason it passes
 pub given-not : {b : Bool} (m p : ℕ) → b ≡ false → given b m p ≡ Passed
 unfolding given
 given-not m p e = ap (λ (x : Bool). cond x (Refused m p) Passed) e
@@ -225,6 +248,7 @@ table-passes t = (there, back)
 
 -- ── what the levels and sizes alone give ──
 module _ {size level : List ℕ} {n : ℕ} (s : Shape size level n) where
+  -- levels rise by at most one
   pub shape-steps : Steps level n
   shape-steps i h =
       let a = s .levels (suc i) h .later (omega arith) .1 in
@@ -242,6 +266,7 @@ module _ {size level : List ℕ} {n : ℕ} (s : Shape size level n) where
   pub shape-fits : (c : ℕ) → c < n → c + at size c < n
   shape-fits c m = let e = s .sizes c m in omega (arith, size-fits level n c (s .in-level) m)
 
+-- the levels and sizes of a sound table make a tree
 pub sound-shape : (t : Table) → Sound t → Shape (t .size) (t .level) (t .count)
 sound-shape t s = record {
   some = s .in-use .some;
@@ -253,9 +278,11 @@ sound-shape t s = record {
 }
 
 module _ (t : Table) (s : Sound t) where
+  -- its levels rise by at most one
   pub sound-steps : Steps (t .level) (t .count)
   sound-steps = shape-steps (sound-shape t s)
 
+  -- 01: the descendants of a row are exactly the next size rows
   pub sound-descendants : (c w : ℕ) → c < t .count → w < t .count
       → (ancestor (t .level) c w ≡ true) ↔ ((c < w) × (w ≤ c + at (t .size) c))
   sound-descendants = shape-descendants (sound-shape t s)
@@ -263,4 +290,6 @@ module _ (t : Table) (s : Sound t) where
   -- the row of a key is the one row that has it
   pub find-at : (i : ℕ) → i < t .count → rowOf (t .key) (t .count) (at (t .key) i) ≡ i
   unfolding rowOf
-  find-at i l = least-at _ (t .count) i l (λ j m. ne-eqb _ _ (s .rows i l .keys .unlike j m)) (eq-eqb (at (t .key) i) (at (t .key) i) refl)
+  find-at i l =
+      least-at _ (t .count) i l (λ j m. ne-eqb _ _ (s .rows i l .keys .unlike j m))
+      (eq-eqb (at (t .key) i) (at (t .key) i) refl)

@@ -1,5 +1,5 @@
--- The kept count: 01, "The step". How many distinct pairs remain when redundant ones are dropped; the test plays no part.
--- In words, for each group of axes: proofs/KeptLaws.antt. Assumes nothing.
+-- The kept count: 01, "The step". How many distinct pairs remain when redundant ones are dropped; the test plays no
+-- part. In words, for each group of axes: proofs/KeptLaws.antt. Assumes nothing.
 use Prim.Native.Nat.{ℕ}
 use mathlib.Core.Bool.{Bool, false, cond, _||_}
 use mathlib.Core.List.{List, [], _∷_}
@@ -8,8 +8,8 @@ use lib.ListN.{length}
 use Rattle.tree.specs.Tree.{ancestor}
 use Rattle.tree.specs.Pairs.{Pair, some}
 
--- on this axis a pair on row c is redundant where the same role has a pair on row d; on 8 and 9 the pair on the least row
--- of a role remains
+-- on this axis a pair on row c is redundant where the same role has a pair on row d; on 8 and 9 the pair on the
+-- least row of a role remains
 unfoldable pub drops : ℕ → List ℕ → ℕ → ℕ → Bool
 drops axis level c d =
     cond (eqb axis 3 || eqb axis 4) (ancestor level d c)

@@ -11,7 +11,8 @@ use Rattle.tree.specs.Pairs.{Pair, pairsOf, rolesOf, rowsOf}
 use Rattle.tree.specs.Step.{Ask, stepList}
 use Rattle.tree.specs.Kept.{keptCount}
 use Rattle.tree.specs.Edit.{inserted, deleted, renamed, insertDone, deleteDone, renameDone}
-use Rattle.tree.specs.Refusal.{next, tableCheck, pairCheck, askCheck, roomCheck, keyCheck, insertCheck, deleteCheck, renameCheck}
+use Rattle.tree.specs.Refusal.{next, tableCheck, pairCheck, askCheck, roomCheck}
+use Rattle.tree.specs.Refusal.{keyCheck, insertCheck, deleteCheck, renameCheck}
 use Rattle.tree.specs.declared.Checked.{Checked}
 use Rattle.tree.specs.declared.Checked.the-variants.{Passed, Refused}
 use Rattle.tree.specs.declared.Found.{Found}

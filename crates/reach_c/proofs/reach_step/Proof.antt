@@ -1,4 +1,5 @@
--- `reach_c::reach_step` meets its contract: the library's answer, put into C's struct, and its columns. Assumes nothing.
+-- `reach_c::reach_step` meets its contract: the library's answer, put into C's struct, and its columns.
+-- Assumes nothing.
 use mathlib.Core.Path.{ap, _∙_}
 use Rattle.reach_c.specs.Answer.{stepAnswer}
 use borrow.Author.Needs.{needs}

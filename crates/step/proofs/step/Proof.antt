@@ -20,7 +20,9 @@ step-known-requires c κs =
     call-known _ _ _ _ (sym (told .before .before .check-call .ensures) ∙ told .enum-told .given .1)
 
 returns : tie.Need-returns
-returns c = leaves-refused _ _ _ _ _ _ _ _ (sym (c .before .before .before .check-call .ensures) ∙ c .before .checked .given .1)
+returns c =
+    leaves-refused _ _ _ _ _ _ _ _
+    (sym (c .before .before .before .check-call .ensures) ∙ c .before .checked .given .1)
 
 same-length : tie.Need-same-length
 same-length c = search needs

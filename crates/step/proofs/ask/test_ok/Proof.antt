@@ -18,7 +18,8 @@ returns-2 c =
 returns-3 : tie.Need-returns-3
 returns-3 c = ⊎-elim
     (λ w. let e = w .keys2 in sym (test-plain _ _ (omega arith) (λ q. omega arith) (λ q. omega arith)))
-    (λ w. sym (test-plain _ _ (omega (arith, w .1 .taken)) (λ q. w .0 .rest .0 .1 (inl q)) (λ q. w .0 .rest .0 .1 (inr q))))
+    (λ w. sym (test-plain _ _ (omega (arith, w .1 .taken)) (λ q. w .0 .rest .0 .1 (inl q))
+    (λ q. w .0 .rest .0 .1 (inr q))))
     (c .match .came)
 
 pub test-ok-spec : {M : Type 1} → statement M

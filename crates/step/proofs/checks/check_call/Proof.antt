@@ -23,7 +23,8 @@ returns c = rw (← c .before .before .before .check .ensures, c .before .checke
 
 returns-2 : tie.Need-returns-2
 unfolding next checkOutcome
-returns-2 c = rw (← c .before .before .before .check .ensures, c .before .enum-told .given .1) (c .check-pairs-and-ask .ensures)
+returns-2 c =
+    rw (← c .before .before .before .check .ensures, c .before .enum-told .given .1) (c .check-pairs-and-ask .ensures)
 
 pub check-call-spec : {M : Type 1} → statement M
 check-call-spec =

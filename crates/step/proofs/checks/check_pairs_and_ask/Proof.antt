@@ -22,7 +22,8 @@ returns c = rw (← c .before .before .before .check-pairs .ensures, c .before .
 
 returns-2 : tie.Need-returns-2
 unfolding next
-returns-2 c = rw (← c .before .before .before .check-pairs .ensures, c .before .enum-told .given .1) (c .check-ask .ensures)
+returns-2 c =
+    rw (← c .before .before .before .check-pairs .ensures, c .before .enum-told .given .1) (c .check-ask .ensures)
 
 pub check-pairs-and-ask-spec : {M : Type 1} → statement M
 check-pairs-and-ask-spec =

@@ -1,5 +1,5 @@
--- `step::kept::kept_of` meets its contract: each arm counts on one axis of a group whose axes keep the same. Assumes
--- nothing.
+-- `step::kept::kept_of` meets its contract: each arm counts on one axis of a group whose axes keep the same.
+-- Assumes nothing.
 use mathlib.Core.Path.{_∙_}
 use mathlib.Core.Logic.{inl, inr, ⊎-elim}
 use native.Mathlib.Omega.{arith}

@@ -1,5 +1,5 @@
--- `step::mark::earlier_siblings_of` meets its contract: the laws of the axis, over what `hop` leaves. Assumes
--- nothing.
+-- `step::mark::earlier_siblings_of` meets its contract: the laws of the axis, over what `hop` leaves.
+-- Assumes nothing.
 use native.Mathlib.Omega.{arith}
 use borrow.Author.Needs.{needs}
 use Rattle.step.proofs.TurnLaws.{turn-row, turn-root, turn-parent, parent-fits}

@@ -45,7 +45,8 @@ returns-4 c =
     λ e.
     let start = c .before .before .before .before .before .before .before .before .before .before in
     le-trans (beside-most (start .pre .0) _
-    (start .pre .1 (siblings-climb _ (c .before .before .if4 .left) (c .before .if5 .taken))) (c .before .before .if4 .left) (c .before .if5 .taken))
+    (start .pre .1 (siblings-climb _ (c .before .before .if4 .left) (c .before .if5 .taken)))
+    (c .before .before .if4 .left) (c .before .if5 .taken))
     (rw (c .parent-spans .ensures) at (leb-true (c .parent-spans .result) (start .args .room) e))
 
 returns-5 : tie.Need-returns-5

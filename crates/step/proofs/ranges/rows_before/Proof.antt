@@ -1,5 +1,5 @@
--- `step::ranges::rows_before` meets its contract. The invariant: the rows reached below w are written. Assumes
--- nothing.
+-- `step::ranges::rows_before` meets its contract. The invariant: the rows reached below w are written.
+-- Assumes nothing.
 use Prim.Native.Nat.{_-_}
 use native.Mathlib.Omega.{arith}
 use borrow.Author.Needs.{needs}

@@ -37,8 +37,12 @@ mark-earlier-siblings-requires : tie.Need-mark-earlier-siblings-requires
 unfolding climbsAxis
 mark-earlier-siblings-requires c κs =
     let other = c .before .match .rest in
-    let pre = c .before .before .before .before .before .pre in
-    (pre .1 .0, pre .1 .1 (ap climbsAxis (marked-last _ (pre .0) (other .0 .0 .0 .0 .1) (other .0 .0 .0 .1) (other .0 .0 .1) (other .0 .1) (other .1))))
+    let pre = c .before .before .before .before .before .pre in (
+      pre .1 .0,
+      pre .1 .1
+          (ap climbsAxis (marked-last _ (pre .0)
+          (other .0 .0 .0 .0 .1) (other .0 .0 .0 .1) (other .0 .0 .1) (other .0 .1) (other .1))),
+    )
 
 returns : tie.Need-returns
 returns c = marked-as (c .before .before .match .keys1) (c .mark-children .ensures)
@@ -58,7 +62,8 @@ returns-5 c = marked-as (c .before .before .match .keys5) (c .mark-later-sibling
 returns-6 : tie.Need-returns-6
 returns-6 c =
     let other = c .before .before .match .rest in
-    marked-as (marked-last _ (c .before .before .before .before .before .before .pre .0) (other .0 .0 .0 .0 .1) (other .0 .0 .0 .1) (other .0 .0 .1) (other .0 .1) (other .1))
+    marked-as (marked-last _ (c .before .before .before .before .before .before .pre .0)
+    (other .0 .0 .0 .0 .1) (other .0 .0 .0 .1) (other .0 .0 .1) (other .0 .1) (other .1))
     (c .mark-earlier-siblings .ensures)
 
 pub marked-spec : {M : Type 1} → statement M

@@ -41,7 +41,9 @@ returns-2 c =
     let marks = c .before .before .before .before .before in
     let pre = marks .before .before .before .before .before .before .before .before .before .before .pre in
     record {
-      wrote = wrote-as (marked-rows (marks .marked .ensures) (pre .asks .shape .few) _) (c .before .before .drain .ensures .wrote);
+      wrote =
+          wrote-as (marked-rows (marks .marked .ensures) (pre .asks .shape .few) _)
+          (c .before .before .drain .ensures .wrote);
       blank = c .before .before .drain .ensures .blank;
     }
 

@@ -3,9 +3,9 @@
 use Prim.Native.Nat.{_-_}
 use mathlib.Core.Path.{sym, _∙_}
 use native.Mathlib.Omega.{arith}
-use borrow.Author.Needs.{needs}
-use Rattle.tree.proofs.SoundLaws.{shape-fits}
-use Rattle.step.proofs.HopLaws.{Hopped, hop-start, hop-nothing, hop-met, hop-row, hop-next, hop-done}
+use Rattle.step.proofs.HopLaws.{Hopped, hop-start, hop-nothing, hop-met, hop-row}
+use Rattle.step.proofs.HopLaws.{hop-gathers, hop-next, hop-done}
+use Rattle.step.proofs.WordChildLaws.{gathered-some}
 use Rattle.step.proofs.walk.hop.Statement.{statement}
 use Rattle.step.proofs.walk.hop.Tie as tie
 
@@ -31,46 +31,45 @@ returns-2 c =
 loop-holds : tie.Need-loop-holds Inv-loop μ-loop
 loop-holds c = hop-start (c .before .before .before .before .before .before .pre)
 
-add-requires : tie.Need-add-requires Inv-loop μ-loop
-add-requires c κs =
+word-end-requires : tie.Need-word-end-requires Inv-loop μ-loop
+word-end-requires c κs =
+    let h = c .before .before .before .before .before .before .before .before .pre in
+    let l = c .loop-test .taken in
+    (l, omega (arith, hop-row h (c .before .loop .w) l, h .shape .few))
+
+children-in-word-requires : tie.Need-children-in-word-requires Inv-loop μ-loop
+children-in-word-requires c κs =
     let s = c .before .before in
     let h = s .before .before .before .before .before .before .before .pre in
-    (omega (arith, hop-row h (s .loop .w) (c .before .loop-test .taken), h .shape .few), s .loop .inv .joined .set)
+    let e = c .word-end .ensures in
+    hop-gathers h (s .loop .inv) (c .before .loop-test .taken) (e .1) (e .0) (e .2)
 
-mul-w : tie.Need-mul-w Inv-loop μ-loop
-mul-w c =
-    let s = c .before .before .before in
-    let h = s .before .before .before .before .before .before .before .pre in
-    omega (arith, hop-row h (s .loop .w) (c .before .before .loop-test .taken), h .shape .few)
-
-shared-slice-read-w : tie.Need-shared-slice-read-w Inv-loop μ-loop
-shared-slice-read-w c =
+add-bits-requires : tie.Need-add-bits-requires Inv-loop μ-loop
+add-bits-requires c κs =
     let s = c .before .before .before .before in
     let h = s .before .before .before .before .before .before .before .pre in
-    omega (arith, hop-row h (s .loop .w) (c .before .before .before .loop-test .taken), h .shape .in-size)
-
-add-w : tie.Need-add-w Inv-loop μ-loop
-add-w c =
-    let s = c .before .before .before .before in
-    let h = s .before .before .before .before .before .before .before .pre in
-    let l = hop-row h (s .loop .w) (c .before .before .before .loop-test .taken) in
-    omega (arith, shape-fits (h .shape) (s .loop .w) l, h .shape .few)
-
-add-w-2 : tie.Need-add-w-2 Inv-loop μ-loop
-add-w-2 c =
-    let s = c .before .before .before .before in
-    let h = s .before .before .before .before .before .before .before .pre in
-    let l = hop-row h (s .loop .w) (c .before .before .before .loop-test .taken) in
-    omega (arith, shape-fits (h .shape) (s .loop .w) l, h .shape .few)
+    let l = c .before .before .before .loop-test .taken in
+    let e = c .before .before .word-end .ensures in
+    let g = c .before .children-in-word .ensures in (
+      omega (arith, hop-row h (s .loop .w) l, h .shape .few),
+      s .loop .inv .joined .set,
+      gathered-some (hop-gathers h (s .loop .inv) l (e .1) (e .0) (e .2)) (g .0) (omega (arith, e .0, g .1)),
+    )
 
 loop-less : tie.Need-loop-less Inv-loop μ-loop
-loop-less c = search needs
+loop-less c =
+    let t = c .before .before .before .before .loop-test in
+    let e = c .before .before .before .word-end .ensures in
+    omega (arith, t .taken, e .0, c .before .before .children-in-word .ensures .1)
 
 loop-again : tie.Need-loop-again Inv-loop μ-loop
 loop-again c =
-    let s = c .before .before .before .before in
+    let s = c .before .before .before .before .before in
     let h = s .before .before .before .before .before .before .before .pre in
-    hop-next h (s .loop .inv) (c .before .before .before .loop-test .taken) (c .before .add .ensures)
+    let e = c .before .before .before .word-end .ensures in
+    let g = c .before .before .children-in-word .ensures in
+    let l = c .before .before .before .before .loop-test .taken in
+    hop-next h (s .loop .inv) l (e .1) (g .0) (c .add-bits .ensures)
 
 returns-3 : tie.Need-returns-3 Inv-loop μ-loop
 returns-3 c =
@@ -87,11 +86,9 @@ hop-spec =
     holds-requires
     returns-2
     loop-holds
-    add-requires
-    mul-w
-    shared-slice-read-w
-    add-w
-    add-w-2
+    word-end-requires
+    children-in-word-requires
+    add-bits-requires
     loop-less
     loop-again
     returns-3)

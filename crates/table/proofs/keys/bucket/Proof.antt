@@ -1,3 +1,4 @@
+-- `table::keys::bucket` meets its contract: a remainder is below its divisor. Assumes nothing.
 use mathlib.Core.Path.{refl}
 use Rattle.table.specs.Chain.{bucketOf}
 use Rattle.table.proofs.KeyLaws.{bucket-lt}

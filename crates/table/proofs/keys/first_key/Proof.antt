@@ -1,3 +1,5 @@
+-- `table::keys::first_key` meets its contract. The invariant: the rows below i are chained by bucket, and the key of
+-- each is good. Assumes nothing.
 use Prim.Native.Nat.{ℕ, _≤_, _<_, _-_}
 use mathlib.Core.Path.{_≡_, sym, _∙_}
 use mathlib.Core.Bool.{not, false}
@@ -15,7 +17,9 @@ use Rattle.table.proofs.keys.first_key.Statement.{statement}
 use Rattle.table.proofs.keys.first_key.Tie as tie
 
 abbrev Inv-loop : tie.InvT-loop
-Inv-loop key n heads₀ next₀ i₀ heads next i = (i ≤ n) × (length heads ≡ 16384) × (length next ≡ 4096) × Chained key heads next i × ((j : ℕ) → j < i → not (keyOk key j) ≡ false)
+Inv-loop key n heads₀ next₀ i₀ heads next i =
+    (i ≤ n) × (length heads ≡ 16384) × (length next ≡ 4096) × Chained key heads next i
+    × ((j : ℕ) → j < i → not (keyOk key j) ≡ false)
 
 abbrev μ-loop : tie.MeasureT-loop
 μ-loop key n heads₀ next₀ i₀ heads next i = n - i
@@ -31,14 +35,20 @@ shared-slice-read-x c = search needs
 
 returns : tie.Need-returns Inv-loop μ-loop
 unfolding firstKey
-returns c = sym (least-at _ _ _ (c .before .before .loop-test .taken) (c .before .before .before .loop .inv .4) (key-zero _ _ (c .if1 .taken)))
+returns c =
+    sym (least-at _ _ _ (c .before .before .loop-test .taken) (c .before .before .before .loop .inv .4)
+    (key-zero _ _ (c .if1 .taken)))
 
 fresh-requires : tie.Need-fresh-requires Inv-loop μ-loop
 fresh-requires c κs = search needs
 
 returns-2 : tie.Need-returns-2 Inv-loop μ-loop
 unfolding firstKey
-returns-2 c = sym (least-at _ _ _ (c .before .before .before .before .before .before .loop-test .taken) (c .before .before .before .before .before .before .before .loop .inv .4) (key-again _ _ (c .before .before .before .before .if1 .left) (sym (c .before .fresh .ensures) ∙ not-true (c .before .fresh .result) (c .if2 .taken))))
+returns-2 c =
+    sym (least-at _ _ _ (c .before .before .before .before .before .before .loop-test .taken)
+    (c .before .before .before .before .before .before .before .loop .inv .4)
+    (key-again _ _ (c .before .before .before .before .if1 .left)
+    (sym (c .before .fresh .ensures) ∙ not-true (c .before .fresh .result) (c .if2 .taken))))
 
 bucket-requires : tie.Need-bucket-requires Inv-loop μ-loop
 bucket-requires c κs = search needs
@@ -80,7 +90,10 @@ loop-again c =
       simp length-set (at .inv .1),
       simp length-set (at .inv .2),
       rw (c .bucket .ensures .0) (chained-more _ _ _ (at .i) (at .inv .1) (omega arith) (at .inv .3)),
-      below-more _ _ (at .inv .4) (key-good _ _ (c .before .before .before .before .before .if1 .left) (sym (c .before .before .fresh .ensures) ∙ not-false (c .before .before .fresh .result) (c .before .if2 .left))),
+      below-more _ _ (at .inv .4)
+          (key-good _ _ (c .before .before .before .before .before .if1 .left)
+          (sym (c .before .before .fresh .ensures)
+          ∙ not-false (c .before .before .fresh .result) (c .before .if2 .left))),
     )
 
 returns-3 : tie.Need-returns-3 Inv-loop μ-loop

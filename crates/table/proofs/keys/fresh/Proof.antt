@@ -1,3 +1,5 @@
+-- `table::keys::fresh` meets its contract. The invariant: a row below i that has the key x is on the rest of the chain.
+-- Assumes nothing.
 use native.Mathlib.Omega.{arith}
 use Prim.Native.Nat.{_-_}
 use mathlib.Core.Path.{sym}
@@ -22,10 +24,16 @@ element-copy-out-r : tie.Need-element-copy-out-r Inv-loop μ-loop
 element-copy-out-r c = search needs
 
 cast-r : tie.Need-cast-r Inv-loop μ-loop
-cast-r c = let w = walk-start _ _ _ _ (c .before .before .before .args .x) _ (c .before .before .before .pre .1) (c .before .bucket .ensures .0) in omega arith
+cast-r c =
+    let w =
+    walk-start _ _ _ _ (c .before .before .before .args .x) _ (c .before .before .before .pre .1)
+    (c .before .bucket .ensures .0) in
+    omega arith
 
 loop-holds : tie.Need-loop-holds Inv-loop μ-loop
-loop-holds c = walk-start _ _ _ _ (c .before .before .before .args .x) _ (c .before .before .before .pre .1) (c .before .bucket .ensures .0)
+loop-holds c =
+    walk-start _ _ _ _ (c .before .before .before .args .x) _ (c .before .before .before .pre .1)
+    (c .before .bucket .ensures .0)
 
 sub-j : tie.Need-sub-j Inv-loop μ-loop
 sub-j c = search needs
@@ -46,13 +54,23 @@ element-copy-out-r-2 : tie.Need-element-copy-out-r-2 Inv-loop μ-loop
 element-copy-out-r-2 c = search needs
 
 cast-r-2 : tie.Need-cast-r-2 Inv-loop μ-loop
-cast-r-2 c = let w = walk-step _ _ _ _ _ _ (c .before .before .before .before .before .before .before .before .pre .1) (c .before .before .before .before .loop .inv) (c .before .before .before .loop-test .taken) (c .before .if1 .left) in omega arith
+cast-r-2 c =
+    let w =
+    walk-step _ _ _ _ _ _ (c .before .before .before .before .before .before .before .before .pre .1)
+    (c .before .before .before .before .loop .inv) (c .before .before .before .loop-test .taken)
+    (c .before .if1 .left) in
+    omega arith
 
 loop-less : tie.Need-loop-less Inv-loop μ-loop
-loop-less c = walk-less _ _ _ _ _ _ (c .before .before .before .before .before .before .before .before .pre .1) (c .before .before .before .before .loop .inv) (c .before .before .before .loop-test .taken)
+loop-less c =
+    walk-less _ _ _ _ _ _ (c .before .before .before .before .before .before .before .before .pre .1)
+    (c .before .before .before .before .loop .inv) (c .before .before .before .loop-test .taken)
 
 loop-again : tie.Need-loop-again Inv-loop μ-loop
-loop-again c = walk-step _ _ _ _ _ _ (c .before .before .before .before .before .before .before .before .pre .1) (c .before .before .before .before .loop .inv) (c .before .before .before .loop-test .taken) (c .before .if1 .left)
+loop-again c =
+    walk-step _ _ _ _ _ _ (c .before .before .before .before .before .before .before .before .pre .1)
+    (c .before .before .before .before .loop .inv) (c .before .before .before .loop-test .taken)
+    (c .before .if1 .left)
 
 returns-2 : tie.Need-returns-2 Inv-loop μ-loop
 returns-2 c = sym (fresh-true _ _ _ _ (c .loop-test .left) (c .before .loop .inv))

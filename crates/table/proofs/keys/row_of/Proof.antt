@@ -1,3 +1,4 @@
+-- `table::keys::row_of` meets its contract. The invariant: no row below k has the key. Assumes nothing.
 use Prim.Native.Nat.{ℕ, _≤_, _<_, _-_}
 use mathlib.Core.Path.{_≡_, sym, ap, _∙_}
 use mathlib.Core.Bool.{false}
@@ -30,7 +31,9 @@ shared-slice-read-if1 c = search needs
 
 returns : tie.Need-returns Inv-loop μ-loop
 unfolding rowOf
-returns c = sym (least-at _ _ _ (c .before .before .loop-test .taken) (c .before .before .before .loop .inv .1) (eq-eqb _ _ (c .if1 .taken)))
+returns c =
+    sym (least-at _ _ _ (c .before .before .loop-test .taken) (c .before .before .before .loop .inv .1)
+    (eq-eqb _ _ (c .if1 .taken)))
 
 add-k : tie.Need-add-k Inv-loop μ-loop
 add-k c = search needs

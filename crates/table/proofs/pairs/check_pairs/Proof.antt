@@ -28,8 +28,10 @@ either-requires c κs = search needs
 returns-3 : tie.Need-returns-3
 returns-3 c =
     let none = neither _ _ (sym (c .before .either .ensures) ∙ not-true (c .before .either .result) (c .if3 .taken)) in
-    sym (pairs-pass _ _ _ (c .before .before .before .before .before .if1 .left) (c .before .before .before .before .if2 .left)
-    (c .before .before .before .falls-somewhere .ensures (none .0)) (c .before .before .leaves-somewhere .ensures (none .1)))
+    sym (pairs-pass _ _ _ (c .before .before .before .before .before .if1 .left)
+    (c .before .before .before .before .if2 .left)
+    (c .before .before .before .falls-somewhere .ensures (none .0))
+    (c .before .before .leaves-somewhere .ensures (none .1)))
 
 first-disorder-requires : tie.Need-first-disorder-requires
 first-disorder-requires c κs = search needs
@@ -37,7 +39,8 @@ first-disorder-requires c κs = search needs
 returns-4 : tie.Need-returns-4
 unfolding given givenAt next
 returns-4 c = rw (
-  pair-check-is _ _ _ (c .before .before .before .before .before .before .before .if1 .left) (c .before .before .before .before .before .before .if2 .left),
+  pair-check-is _ _ _ (c .before .before .before .before .before .before .before .if1 .left)
+      (c .before .before .before .before .before .before .if2 .left),
   ← c .before .first-disorder .ensures,
   lt-ltb _ _ (c .if4 .taken),
 )
@@ -48,7 +51,8 @@ first-outside-requires c κs = search needs
 returns-5 : tie.Need-returns-5
 unfolding given givenAt next
 returns-5 c = rw (
-  pair-check-is _ _ _ (c .before .before .before .before .before .before .before .before .before .if1 .left) (c .before .before .before .before .before .before .before .before .if2 .left),
+  pair-check-is _ _ _ (c .before .before .before .before .before .before .before .before .before .if1 .left)
+      (c .before .before .before .before .before .before .before .before .if2 .left),
   ← c .before .before .before .first-disorder .ensures,
   le-ltb _ _ (c .before .before .if4 .left),
   ← c .before .first-outside .ensures,
@@ -58,7 +62,8 @@ returns-5 c = rw (
 returns-6 : tie.Need-returns-6
 unfolding given givenAt next
 returns-6 c = rw (
-  pair-check-is _ _ _ (c .before .before .before .before .before .before .before .before .before .if1 .left) (c .before .before .before .before .before .before .before .before .if2 .left),
+  pair-check-is _ _ _ (c .before .before .before .before .before .before .before .before .before .if1 .left)
+      (c .before .before .before .before .before .before .before .before .if2 .left),
   ← c .before .before .before .first-disorder .ensures,
   le-ltb _ _ (c .before .before .if4 .left),
   ← c .before .first-outside .ensures,

@@ -1,5 +1,5 @@
--- `table::pass::all_fit` meets its contract. The rows below i are followed: each has its size, or is unfinished and stands
--- in ends. Assumes nothing.
+-- `table::pass::all_fit` meets its contract. The rows below i are followed: each has its size, or is unfinished and
+-- stands in ends. Assumes nothing.
 use Prim.Native.Nat.{ℕ, _≤_, _-_}
 use mathlib.Core.Path.{sym, _∙_}
 use mathlib.Core.Bool.{true≢false}
@@ -40,7 +40,9 @@ returns c e = absurd (true≢false (sym e))
 
 add-ends : tie.Need-add-ends Inv-loop μ-loop
 add-ends c =
-    let fits = root-small _ _ _ _ (sym (c .before .root-fits .ensures) ∙ not-false (c .before .root-fits .result) (c .if1 .left)) in
+    let fits =
+    root-small _ _ _ _
+    (sym (c .before .root-fits .ensures) ∙ not-false (c .before .root-fits .result) (c .if1 .left)) in
     omega arith
 
 array-write-ends : tie.Need-array-write-ends Inv-loop μ-loop
@@ -93,29 +95,39 @@ returns-3 c e = absurd (true≢false (sym e))
 add-ends-2 : tie.Need-add-ends-2 Inv-loop μ-loop
 add-ends-2 c =
     let test = c .before .before .before in
-    let fits = row-small _ _ _ _ _ _ (sym (test .before .row-fits .ensures) ∙ not-false (test .before .row-fits .result) (test .if2 .left)) in
+    let fits =
+    row-small _ _ _ _ _ _
+    (sym (test .before .row-fits .ensures) ∙ not-false (test .before .row-fits .result) (test .if2 .left)) in
     let turn = test .before .before .before .before .before .before in
-    let start = turn .before .before .before .before .before .before .before .before .before .before .before .before .before in
+    let start =
+    turn .before .before .before .before .before .before .before .before .before .before .before .before .before in
     omega (arith, turn .loop-test .taken, start .pre .few)
 
 add-ends-3 : tie.Need-add-ends-3 Inv-loop μ-loop
 add-ends-3 c =
     let test = c .before .before .before in
-    let fits = row-small _ _ _ _ _ _ (sym (test .before .row-fits .ensures) ∙ not-false (test .before .row-fits .result) (test .if2 .left)) in
+    let fits =
+    row-small _ _ _ _ _ _
+    (sym (test .before .row-fits .ensures) ∙ not-false (test .before .row-fits .result) (test .if2 .left)) in
     let turn = test .before .before .before .before .before .before in
-    let start = turn .before .before .before .before .before .before .before .before .before .before .before .before .before in
+    let start =
+    turn .before .before .before .before .before .before .before .before .before .before .before .before .before in
     omega (arith, turn .loop-test .taken, start .pre .few)
 
 mul-ends : tie.Need-mul-ends Inv-loop μ-loop
 mul-ends c =
     let test = c .before .before .before in
-    let fits = row-small _ _ _ _ _ _ (sym (test .before .row-fits .ensures) ∙ not-false (test .before .row-fits .result) (test .if2 .left)) in
+    let fits =
+    row-small _ _ _ _ _ _
+    (sym (test .before .row-fits .ensures) ∙ not-false (test .before .row-fits .result) (test .if2 .left)) in
     omega arith
 
 array-write-ends-2 : tie.Need-array-write-ends-2 Inv-loop μ-loop
 array-write-ends-2 c =
     let test = c .before .before .before in
-    let fits = row-small _ _ _ _ _ _ (sym (test .before .row-fits .ensures) ∙ not-false (test .before .row-fits .result) (test .if2 .left)) in
+    let fits =
+    row-small _ _ _ _ _ _
+    (sym (test .before .row-fits .ensures) ∙ not-false (test .before .row-fits .result) (test .if2 .left)) in
     omega arith
 
 add-i : tie.Need-add-i Inv-loop μ-loop
@@ -129,7 +141,8 @@ loop-again c =
     let test = c .before .before .before in
     let turn = test .before .before .before .before .before .before in
     let loop = turn .before .loop in
-    let start = turn .before .before .before .before .before .before .before .before .before .before .before .before .before in (
+    let start =
+    turn .before .before .before .before .before .before .before .before .before .before .before .before .before in (
       omega arith,
       followed-more _ (start .pre) _ _ _ (turn .loop-test .taken) (loop .inv .1)
           (sym (test .before .row-fits .ensures) ∙ not-false (test .before .row-fits .result) (test .if2 .left))
@@ -142,8 +155,10 @@ end-at-requires-2 c κs = search needs
 returns-4 : tie.Need-returns-4 Inv-loop μ-loop
 returns-4 c e =
     let at-end = c .before .before in
-    let start = at-end .before .before .before .before .before .before .before .before .before .before .before .before .before in
-    followed-all _ (start .pre) _ _ (at-end .before .loop .i) (omega (arith, at-end .before .loop .inv .0)) (at-end .before .loop .inv .1)
+    let start =
+    at-end .before .before .before .before .before .before .before .before .before .before .before .before .before in
+    followed-all _ (start .pre) _ _ (at-end .before .loop .i) (omega (arith, at-end .before .loop .inv .0))
+    (at-end .before .loop .inv .1)
     (c .end-at2 .ensures e)
 
 pub all-fit-spec : {M : Type 1} → statement M

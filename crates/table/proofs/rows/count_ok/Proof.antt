@@ -1,3 +1,4 @@
+-- `table::rows::count_ok` meets its contract: the tests, joined in the definition's order. Assumes nothing.
 use Rattle.tree.specs.Table.{countOk}
 use borrow.Author.Needs.{needs}
 use Rattle.table.proofs.rows.count_ok.Statement.{statement}

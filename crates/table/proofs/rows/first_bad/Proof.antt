@@ -1,3 +1,5 @@
+-- `table::rows::first_bad` meets its contract: the least row that fails one of two tests is the smaller of the two
+-- leasts. Assumes nothing.
 use mathlib.Core.Path.{sym, _∙_}
 use Rattle.tree.proofs.SearchLaws.{least-both}
 use Rattle.table.specs.First.{firstRest, firstKey}
@@ -17,7 +19,8 @@ smaller-requires c κs = search needs
 
 returns : tie.Need-returns
 unfolding firstBad firstRest firstKey rowOk
-returns c = simp (c .smaller .ensures, c .before .first-key .ensures, c .before .before .first-rest .ensures, least-both)
+returns c =
+    simp (c .smaller .ensures, c .before .first-key .ensures, c .before .before .first-rest .ensures, least-both)
 
 pub first-bad-spec : {M : Type 1} → statement M
 first-bad-spec =

@@ -1,4 +1,5 @@
--- `table::rows::first_rest` meets its contract: the pass says that there is none, or the search finds it. Assumes nothing.
+-- `table::rows::first_rest` meets its contract: the pass says that there is none, or the search finds it.
+-- Assumes nothing.
 use mathlib.Core.Path.{sym}
 use borrow.Author.Needs.{needs}
 use Rattle.table.proofs.rows.first_rest.Statement.{statement}

@@ -1,3 +1,4 @@
+-- `table::rows::kind_ok` meets its contract: the tests, joined in the definition's order. Assumes nothing.
 use Rattle.tree.specs.Sound.{kindOk}
 use borrow.Author.Needs.{needs}
 use Rattle.table.proofs.rows.kind_ok.Statement.{statement}

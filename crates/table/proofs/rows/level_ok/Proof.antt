@@ -1,3 +1,4 @@
+-- `table::rows::level_ok` meets its contract, test by test. Assumes nothing.
 use Prim.Native.Nat.{_+_, _-_}
 use native.Mathlib.Omega.{arith}
 use lib.ListN.{getD}
@@ -6,45 +7,39 @@ use Rattle.tree.specs.Sound.{levelOk}
 use borrow.Author.Needs.{needs}
 use Rattle.table.proofs.rows.level_ok.Statement.{statement}
 use Rattle.table.proofs.rows.level_ok.Tie as tie
-use Rattle.table.proofs.rows.level_ok.Reads as reads
-use Rattle.table.proofs.rows.level_ok.Lts as lts
 
--- src/rows.rt:56:15
 mul-own : tie.Need-mul-own
 mul-own c = search needs
 
--- src/rows.rt:56:15
 shared-slice-read-own : tie.Need-shared-slice-read-own
 shared-slice-read-own c = search needs
 
--- src/rows.rt:58:9
 returns : tie.Need-returns
 unfolding levelOk
 returns c = simp (eq-eqb _ _ (c .if1 .taken))
 
--- src/rows.rt:60:24
 sub-before : tie.Need-sub-before
 sub-before c = search needs
 
--- src/rows.rt:60:18
 mul-before : tie.Need-mul-before
 mul-before c = search needs
 
--- src/rows.rt:60:18
 shared-slice-read-before : tie.Need-shared-slice-read-before
 shared-slice-read-before c = search needs
 
--- src/rows.rt:62:9
 returns-2 : tie.Need-returns-2
 unfolding levelOk
 returns-2 c = simp (ne-eqb _ _ (c .before .before .if1 .left), lt-leb _ _ (c .if2 .taken))
 
--- src/rows.rt:65:9
 returns-3 : tie.Need-returns-3
 unfolding levelOk
-returns-3 c = simp (ne-eqb _ _ (c .before .before .before .if1 .left), le-leb _ _ (c .before .if2 .left), lt-leb _ _ (c .if3 .taken))
+returns-3 c =
+    simp (
+      ne-eqb _ _ (c .before .before .before .if1 .left),
+      le-leb _ _ (c .before .if2 .left),
+      lt-leb _ _ (c .if3 .taken),
+    )
 
--- src/rows.rt:68:9
 returns-4 : tie.Need-returns-4
 unfolding levelOk
 returns-4 c =
@@ -56,7 +51,6 @@ returns-4 c =
       lt-leb (getD (a .level .now) (a .i) 0) (getD (a .level .now) (a .i - 1) 0 + 1) (omega arith),
     )
 
--- src/rows.rt:52:1
 returns-5 : tie.Need-returns-5
 unfolding levelOk
 returns-5 c =

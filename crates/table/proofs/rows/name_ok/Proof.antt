@@ -1,3 +1,4 @@
+-- `table::rows::name_ok` meets its contract, kind by kind. Assumes nothing.
 use borrow.Author.Tests.{ne-eqb, eq-eqb, le-leb, lt-leb}
 use native.Mathlib.Omega.{arith}
 use Rattle.tree.specs.Sound.{nameOk, hasName}

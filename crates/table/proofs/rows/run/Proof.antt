@@ -1,3 +1,4 @@
+-- `table::rows::run` meets its contract. The invariant: every level below place k is above top. Assumes nothing.
 use Prim.Native.Nat.{ℕ, _≤_, _<_, _-_}
 use mathlib.Core.Path.{_≡_, sym, ap, _∙_}
 use mathlib.Core.Bool.{false}
@@ -12,8 +13,6 @@ use Rattle.tree.specs.Sound.{runOf}
 use borrow.Author.Needs.{needs}
 use Rattle.table.proofs.rows.run.Statement.{statement}
 use Rattle.table.proofs.rows.run.Tie as tie
-use Rattle.table.proofs.rows.run.Reads as reads
-use Rattle.table.proofs.rows.run.Lts as lts
 
 abbrev Inv-loop : tie.InvT-loop
 Inv-loop part top k₀ k = (k ≤ length part) × ((j : ℕ) → j < k → leb (getD part j 0) top ≡ false)
@@ -21,36 +20,30 @@ Inv-loop part top k₀ k = (k ≤ length part) × ((j : ℕ) → j < k → leb (
 abbrev μ-loop : tie.MeasureT-loop
 μ-loop part top k₀ k = length part - k
 
--- src/rows.rt:78:5
 loop-holds : tie.Need-loop-holds Inv-loop μ-loop
 loop-holds c = (search needs, below-none _)
 
--- src/rows.rt:79:12
 mul-if1 : tie.Need-mul-if1 Inv-loop μ-loop
 mul-if1 c = search needs
 
--- src/rows.rt:79:12
 shared-slice-read-if1 : tie.Need-shared-slice-read-if1 Inv-loop μ-loop
 shared-slice-read-if1 c = search needs
 
--- src/rows.rt:80:13
 returns : tie.Need-returns Inv-loop μ-loop
 unfolding runOf
-returns c = sym (least-at _ _ _ (c .before .before .loop-test .taken) (c .before .before .before .loop .inv .1) (le-leb _ _ (c .if1 .taken)))
+returns c =
+    sym (least-at _ _ _ (c .before .before .loop-test .taken) (c .before .before .before .loop .inv .1)
+    (le-leb _ _ (c .if1 .taken)))
 
--- src/rows.rt:82:9
 add-k : tie.Need-add-k Inv-loop μ-loop
 add-k c = search needs
 
--- src/rows.rt:78:5
 loop-less : tie.Need-loop-less Inv-loop μ-loop
 loop-less c = search needs
 
--- src/rows.rt:78:5
 loop-again : tie.Need-loop-again Inv-loop μ-loop
 loop-again c = (search needs, below-more _ _ (c .before .before .before .loop .inv .1) (lt-leb _ _ (c .if1 .left)))
 
--- src/rows.rt:74:1
 returns-2 : tie.Need-returns-2 Inv-loop μ-loop
 unfolding runOf
 returns-2 c = least-end _ _ _ (c .before .loop .inv .0) (c .loop-test .left) (c .before .loop .inv .1)

@@ -1,3 +1,5 @@
+-- `table::rows::search_rest` meets its contract. The invariant: every row below i keeps the rules but the key's.
+-- Assumes nothing.
 use mathlib.Core.Bool.{not}
 use Prim.Native.Nat.{ℕ, _≤_, _<_, _-_}
 use mathlib.Core.Path.{_≡_, sym, ap, _∙_}
@@ -17,7 +19,8 @@ use Rattle.table.proofs.rows.search_rest.Statement.{statement}
 use Rattle.table.proofs.rows.search_rest.Tie as tie
 
 abbrev Inv-loop : tie.InvT-loop
-Inv-loop key size level kind name count i₀ i = (i ≤ count) × ((j : ℕ) → j < i → not (restOk (tableOf key size level kind name count) j) ≡ false)
+Inv-loop key size level kind name count i₀ i =
+    (i ≤ count) × ((j : ℕ) → j < i → not (restOk (tableOf key size level kind name count) j) ≡ false)
 
 abbrev μ-loop : tie.MeasureT-loop
 μ-loop key size level kind name count i₀ i = count - i
@@ -30,7 +33,9 @@ rest-ok-requires c κs = search needs
 
 returns : tie.Need-returns Inv-loop μ-loop
 unfolding firstRest
-returns c = sym (least-at _ _ _ (c .before .before .loop-test .taken) (c .before .before .before .loop .inv .1) (ap not (sym (c .before .rest-ok .ensures)) ∙ c .if1 .taken))
+returns c =
+    sym (least-at _ _ _ (c .before .before .loop-test .taken) (c .before .before .before .loop .inv .1)
+    (ap not (sym (c .before .rest-ok .ensures)) ∙ c .if1 .taken))
 
 add-i : tie.Need-add-i Inv-loop μ-loop
 add-i c = search needs
@@ -39,7 +44,11 @@ loop-less : tie.Need-loop-less Inv-loop μ-loop
 loop-less c = search needs
 
 loop-again : tie.Need-loop-again Inv-loop μ-loop
-loop-again c = (search needs, below-more _ _ (c .before .before .before .loop .inv .1) (ap not (sym (c .before .rest-ok .ensures)) ∙ c .if1 .left))
+loop-again c = (
+  search needs,
+  below-more _ _ (c .before .before .before .loop .inv .1)
+      (ap not (sym (c .before .rest-ok .ensures)) ∙ c .if1 .left),
+)
 
 returns-2 : tie.Need-returns-2 Inv-loop μ-loop
 unfolding firstRest

@@ -1,3 +1,4 @@
+-- `table::rows::shortest` meets its contract: the smaller of two, four times. Assumes nothing.
 use Rattle.tree.specs.Table.{shortest}
 use borrow.Author.Needs.{needs}
 use Rattle.table.proofs.rows.shortest.Statement.{statement}
