@@ -26,9 +26,9 @@ extern "C" {
 typedef struct {
     size_t refusal; /* 0: accepted; else the number below */
     size_t place;   /* where: a row, a pair's place or a number of results, by the number; else 0 */
-    size_t first;   /* find: the row; step: the number of results */
-    size_t second;  /* step: the kept count */
-    int64_t moved;  /* not used yet */
+    size_t first;   /* find: the row; step: the number of results; edits: the new count */
+    size_t second;  /* step: the kept count; edits: the first moved row, in old numbering */
+    int64_t moved;  /* edits: by how many rows it moved, negative for a deletion */
 } reach_answer;
 
 /* Refusal numbers. Where several apply, the lowest is given. */
@@ -41,7 +41,14 @@ enum {
     REACH_BAD_AXIS = 6,    /* the axis code is not 1 to 11; place 0 */
     REACH_BAD_TEST = 7,    /* the test code is not 0 to 7, or the name does not fit it; place 0 */
     REACH_NO_ROOM = 8,     /* more results than the shorter result column holds; place: the number of results */
-    REACH_NO_SUCH_KEY = 9  /* no row in use has the key (always so for key 0); place 0 */
+    REACH_NO_SUCH_KEY = 9, /* no row in use has the key (always so for key 0); place 0 */
+    REACH_BAD_PIECE = 10,  /* the piece would get refusal 1 or 2, or its row 0 is a document; place 0 */
+    REACH_NOT_A_PARENT = 11, /* the parent's kind is neither 0 nor 1; place: its row */
+    REACH_TOO_DEEP = 12,     /* an inserted level would exceed 63; place 0 */
+    REACH_KEY_TAKEN = 13,    /* a piece's key is in the table; place: the least such piece row */
+    REACH_TABLE_FULL = 14,   /* the new count would exceed 4,096 or the shortest table column; place 0 */
+    REACH_IS_ROOT = 15,      /* the row to delete is row 0; place 0 */
+    REACH_NO_NEW_NAME = 16   /* the row to rename is not of kind 1 or 4, or the new name is 0; place: its row */
 };
 
 /* Axis codes of a step. */
@@ -92,6 +99,29 @@ reach_answer reach_step(const size_t *key, size_t key_length, const size_t *size
                         const size_t *name, size_t name_length, size_t count, const size_t *role, size_t role_length,
                         const size_t *row, size_t row_length, size_t axis, size_t test, size_t test_name,
                         size_t *out_role, size_t out_role_length, size_t *out_row, size_t out_row_length);
+
+/*
+ * Edits by key. The five table columns are lent to be written; the caller keeps the new count, which is in first. second is the
+ * first moved row in old numbering (the old count where none follows), moved by how many rows it moved. On a refusal no
+ * column changes.
+ */
+
+/* The piece, a table of its own, becomes the last child of the row of the key parent: refusals 1, 2, 9 to 14. */
+reach_answer reach_insert(size_t *key, size_t key_length, size_t *size, size_t size_length, size_t *level,
+                          size_t level_length, size_t *kind, size_t kind_length, size_t *name, size_t name_length,
+                          size_t count, size_t parent, const size_t *p_key, size_t p_key_length, const size_t *p_size,
+                          size_t p_size_length, const size_t *p_level, size_t p_level_length, const size_t *p_kind,
+                          size_t p_kind_length, const size_t *p_name, size_t p_name_length, size_t p_count);
+
+/* The row of the key goes with its descendants; the freed rows are zero in all five columns: refusals 1, 2, 9, 15. */
+reach_answer reach_delete(size_t *key, size_t key_length, size_t *size, size_t size_length, size_t *level,
+                          size_t level_length, size_t *kind, size_t kind_length, size_t *name, size_t name_length,
+                          size_t count, size_t wanted);
+
+/* The row of the key gets a new name: refusals 1, 2, 9, 16. */
+reach_answer reach_rename(size_t *key, size_t key_length, size_t *size, size_t size_length, size_t *level,
+                          size_t level_length, size_t *kind, size_t kind_length, size_t *name, size_t name_length,
+                          size_t count, size_t wanted, size_t new_name);
 
 #ifdef __cplusplus
 }

@@ -38,3 +38,4 @@ pub mod MostRoleLaws
 pub mod MostAxisLaws
 pub mod MostSpanLaws
 pub mod MostLaws
+pub mod KeptFewLaws
