@@ -128,8 +128,8 @@ pub fn surely_fits(
         (now (kind .entry)) (now (name .entry)) count)
         (askOf axis test «test_name») (pairsOf (now (role .entry)) (now (row .entry)))) ≤ room) ⌝ }
 {
-    if roles(role) * count <= room {
+    if axis_fits(size, level, count, up, row, axis, room) {
         return true;
     }
-    axis_fits(size, level, count, up, row, axis, room)
+    roles(role) * count <= room
 }
