@@ -1,7 +1,7 @@
 -- The kept count of the contexts of one role: `kept-role`, that the role's number plays no part; `kept-rows`, that it
 -- counts rows, each once: those kept (`keptRow`); `row-..`, when a row is kept; `below-..`, counting on from row to
--- row; `kept-descend`, `kept-ascend`, `kept-aside`, `kept-plain`, that the axes of a group keep the same; `kept-most`,
--- that no more remain than there are. Assumes nothing.
+-- row; `kept-descend`, `kept-ascend`, `kept-aside`, `kept-plain`, that the axes of a group keep the same; `kept-none`,
+-- that no contexts keep none; `kept-most`, that no more remain than there are. Assumes nothing.
 use mathlib.Core.Path.{_≡_, refl, sym, ap, ap₂, subst, fun-ext, _∙_}
 use mathlib.Core.Logic.{_⊎_, inl, inr, ⊎-elim}
 use mathlib.Core.Bool.{Bool, true, false, cond, not, _&&_, _||_, and-false, or-true}
@@ -247,6 +247,11 @@ module _ (level cs : List ℕ) where
             (λ l. omega arith)
             (⊎-elim (λ m. omega (arith, h .2 (sym e ∙ m))) (λ l. omega arith))
             g)
+
+-- no context, no pair
+pub kept-none : (axis : ℕ) (level cs : List ℕ) → length cs ≡ 0 → 0 ≡ keptOf axis level cs
+kept-none axis level [] e = sym (kept-remain axis level [])
+kept-none axis level (c ∷ cs) e = absurd (omega arith)
 
 -- no more remain than there are
 pub kept-most : (axis : ℕ) (level cs : List ℕ) → keptOf axis level cs ≤ length cs

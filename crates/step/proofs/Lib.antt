@@ -38,4 +38,3 @@ pub mod MostRoleLaws
 pub mod MostAxisLaws
 pub mod MostSpanLaws
 pub mod MostLaws
-pub mod KeptFewLaws

@@ -71,8 +71,8 @@ pub fn kept_of(axis: usize, size: &[usize], level: &[usize], count: usize, rows:
     requires { ⌜ KeptIn (now size) (now level) count (now rows) ⌝ }
     ensures { λ r. ⌜ r ≡ keptOf axis (now (level .entry)) (now (rows .entry)) ⌝ }
 {
-    if rows.len() <= 1 {
-        return rows.len();
+    if rows.len() == 0 {
+        return 0;
     }
     match axis {
         3 | 4 => kept_outermost(size, level, count, rows),

@@ -4,14 +4,13 @@ use mathlib.Core.Path.{_∙_}
 use mathlib.Core.Logic.{inl, inr, ⊎-elim}
 use native.Mathlib.Omega.{arith}
 use borrow.Author.Needs.{needs}
-use Rattle.step.proofs.KeptOfLaws.{kept-descend, kept-ascend, kept-aside, kept-plain}
-use Rattle.step.proofs.KeptFewLaws.{kept-few}
+use Rattle.step.proofs.KeptOfLaws.{kept-none, kept-descend, kept-ascend, kept-aside, kept-plain}
 use Rattle.step.proofs.KeptPassLaws.{one-kept}
 use Rattle.step.proofs.kept.kept_of.Statement.{statement}
 use Rattle.step.proofs.kept.kept_of.Tie as tie
 
 returns : tie.Need-returns
-returns c = kept-few (c .before .before .before .before .pre) _ (c .if1 .taken)
+returns c = kept-none _ _ _ (c .if1 .taken)
 
 kept-outermost-requires : tie.Need-kept-outermost-requires
 kept-outermost-requires c κs = search needs
