@@ -49,12 +49,14 @@ part-kept-of-start c = search needs
 
 part-kept-of-end : tie.Need-part-kept-of-end Inv-loop μ-loop
 part-kept-of-end c =
-    omega (arith, c .run-end .ensures .within, pairs-fit _ _ _ _ _ (c .before .before .before .before .before .before .before .before .before .before .before .before .before .pre .0) .even)
+    let start = c .before .before .before .before .before .before .before .before .before .before .before .before .before in
+    omega (arith, c .run-end .ensures .within, pairs-fit _ _ _ _ _ (start .pre .0) .even)
 
 kept-of-requires : tie.Need-kept-of-requires Inv-loop μ-loop
 kept-of-requires c κs =
     let turn = c .before in
-    keeping-asks (turn .before .before .before .before .before .before .before .before .before .before .before .before .before .args .axis) _ _ _ _ _ (sound-shape _ (turn .before .before .before .before .before .before .before .before .before .before .before .before .before .pre .0 .sound)) (pairs-fit _ _ _ _ _ (turn .before .before .before .before .before .before .before .before .before .before .before .before .before .pre .0)) _ _ (turn .run-end .ensures)
+    let start = turn .before .before .before .before .before .before .before .before .before .before .before .before .before in
+    keeping-asks (start .args .axis) _ _ _ _ _ (sound-shape _ (start .pre .0 .sound)) (pairs-fit _ _ _ _ _ (start .pre .0)) _ _ (turn .run-end .ensures)
 
 add-kept : tie.Need-add-kept Inv-loop μ-loop
 add-kept c =
@@ -66,7 +68,7 @@ add-kept c =
       turn .run-end .ensures .within,
       turn .run-end .ensures .after,
       c .kept-of .ensures,
-      run-most (start .args .axis) _ (start .args .level .now) _ _ _ (sound-shape _ (turn .before .before .before .before .before .before .before .before .before .before .before .before .before .pre .0 .sound)) (pairs-fit _ _ _ _ _ (turn .before .before .before .before .before .before .before .before .before .before .before .before .before .pre .0)) _ _ (turn .run-end .ensures),
+      run-most (start .args .axis) _ (start .args .level .now) _ _ _ (sound-shape _ (start .pre .0 .sound)) (pairs-fit _ _ _ _ _ (start .pre .0)) _ _ (turn .run-end .ensures),
       pairs-fit _ _ _ _ _ (start .pre .0) .few,
     )
 
@@ -82,22 +84,26 @@ part-one-role-start c = search needs
 part-one-role-end : tie.Need-part-one-role-end Inv-loop μ-loop
 part-one-role-end c =
     let turn = c .before .before in
-    omega (arith, turn .run-end .ensures .within, pairs-fit _ _ _ _ _ (turn .before .before .before .before .before .before .before .before .before .before .before .before .before .pre .0) .even)
+    let start = turn .before .before .before .before .before .before .before .before .before .before .before .before .before in
+    omega (arith, turn .run-end .ensures .within, pairs-fit _ _ _ _ _ (start .pre .0) .even)
 
 mul-one-role-2 : tie.Need-mul-one-role-2 Inv-loop μ-loop
 mul-one-role-2 c =
     let turn = c .before .before .before .before in
-    omega (arith, turn .before .before .loop .inv .0 .small, turn .before .loop-test .taken, pairs-fit _ _ _ _ _ (turn .before .before .before .before .before .before .before .before .before .before .before .before .before .pre .0) .few)
+    let start = turn .before .before .before .before .before .before .before .before .before .before .before .before .before in
+    omega (arith, turn .before .before .loop .inv .0 .small, turn .before .loop-test .taken, pairs-fit _ _ _ _ _ (start .pre .0) .few)
 
 sub-one-role-2 : tie.Need-sub-one-role-2 Inv-loop μ-loop
 sub-one-role-2 c =
     let turn = c .before .before .before .before in
-    omega (arith, written-start _ _ _ _ _ _ _ (turn .before .before .before .before .before .before .before .before .before .before .before .before .before .pre .0) (turn .before .before .before .before .before .before .before .before .before .before .before .before .before .pre .1) (turn .before .before .loop .inv .0) (turn .run-end .ensures))
+    let start = turn .before .before .before .before .before .before .before .before .before .before .before .before .before in
+    omega (arith, written-start _ _ _ _ _ _ _ (start .pre .0) (start .pre .1) (turn .before .before .loop .inv .0) (turn .run-end .ensures))
 
 part-one-role-start-2 : tie.Need-part-one-role-start-2 Inv-loop μ-loop
 part-one-role-start-2 c =
     let turn = c .before .before .before .before in
-    omega (arith, written-start _ _ _ _ _ _ _ (turn .before .before .before .before .before .before .before .before .before .before .before .before .before .pre .0) (turn .before .before .before .before .before .before .before .before .before .before .before .before .before .pre .1) (turn .before .before .loop .inv .0) (turn .run-end .ensures))
+    let start = turn .before .before .before .before .before .before .before .before .before .before .before .before .before in
+    omega (arith, written-start _ _ _ _ _ _ _ (start .pre .0) (start .pre .1) (turn .before .before .loop .inv .0) (turn .run-end .ensures))
 
 part-one-role-end-2 : tie.Need-part-one-role-end-2 Inv-loop μ-loop
 part-one-role-end-2 c = search needs
@@ -105,23 +111,27 @@ part-one-role-end-2 c = search needs
 one-role-requires : tie.Need-one-role-requires Inv-loop μ-loop
 one-role-requires c κs =
     let turn = c .before .before .before .before .before in
+    let start = turn .before .before .before .before .before .before .before .before .before .before .before .before .before in
     rw (turn .before .before .before .wanted-kind .ensures)
-    (written-asks _ _ _ _ _ _ _ (turn .before .before .before .before .before .before .before .before .before .before .before .before .before .pre .0) (turn .before .before .before .before .before .before .before .before .before .before .before .before .before .pre .1) (turn .before .before .loop .inv .0) (turn .run-end .ensures))
+    (written-asks _ _ _ _ _ _ _ (start .pre .0) (start .pre .1) (turn .before .before .loop .inv .0) (turn .run-end .ensures))
 
 mul-fill : tie.Need-mul-fill Inv-loop μ-loop
 mul-fill c =
     let turn = c .before .before .before .before .before .before .before .before in
-    omega (arith, turn .before .before .loop .inv .0 .small, turn .before .loop-test .taken, pairs-fit _ _ _ _ _ (turn .before .before .before .before .before .before .before .before .before .before .before .before .before .pre .0) .few)
+    let start = turn .before .before .before .before .before .before .before .before .before .before .before .before .before in
+    omega (arith, turn .before .before .loop .inv .0 .small, turn .before .loop-test .taken, pairs-fit _ _ _ _ _ (start .pre .0) .few)
 
 sub-fill : tie.Need-sub-fill Inv-loop μ-loop
 sub-fill c =
     let turn = c .before .before .before .before .before .before .before .before in
-    omega (arith, written-starts _ _ _ _ _ _ _ (turn .before .before .before .before .before .before .before .before .before .before .before .before .before .pre .0) (turn .before .before .before .before .before .before .before .before .before .before .before .before .before .pre .1) (turn .before .before .loop .inv .0) (turn .run-end .ensures))
+    let start = turn .before .before .before .before .before .before .before .before .before .before .before .before .before in
+    omega (arith, written-starts _ _ _ _ _ _ _ (start .pre .0) (start .pre .1) (turn .before .before .loop .inv .0) (turn .run-end .ensures))
 
 part-fill-start : tie.Need-part-fill-start Inv-loop μ-loop
 part-fill-start c =
     let turn = c .before .before .before .before .before .before .before .before in
-    omega (arith, written-starts _ _ _ _ _ _ _ (turn .before .before .before .before .before .before .before .before .before .before .before .before .before .pre .0) (turn .before .before .before .before .before .before .before .before .before .before .before .before .before .pre .1) (turn .before .before .loop .inv .0) (turn .run-end .ensures))
+    let start = turn .before .before .before .before .before .before .before .before .before .before .before .before .before in
+    omega (arith, written-starts _ _ _ _ _ _ _ (start .pre .0) (start .pre .1) (turn .before .before .loop .inv .0) (turn .run-end .ensures))
 
 part-fill-end : tie.Need-part-fill-end Inv-loop μ-loop
 part-fill-end c = search needs
@@ -129,7 +139,8 @@ part-fill-end c = search needs
 mul-fill-2 : tie.Need-mul-fill-2 Inv-loop μ-loop
 mul-fill-2 c =
     let turn = c .before .before .before .before .before .before .before .before .before in
-    omega (arith, turn .before .before .loop .inv .0 .small, turn .before .loop-test .taken, pairs-fit _ _ _ _ _ (turn .before .before .before .before .before .before .before .before .before .before .before .before .before .pre .0) .few)
+    let start = turn .before .before .before .before .before .before .before .before .before .before .before .before .before in
+    omega (arith, turn .before .before .loop .inv .0 .small, turn .before .loop-test .taken, pairs-fit _ _ _ _ _ (start .pre .0) .few)
 
 shared-slice-read-fill : tie.Need-shared-slice-read-fill Inv-loop μ-loop
 shared-slice-read-fill c = search needs
@@ -137,19 +148,21 @@ shared-slice-read-fill c = search needs
 fill-requires : tie.Need-fill-requires Inv-loop μ-loop
 fill-requires c κs =
     let turn = c .before .before .before .before .before .before .before .before .before .before in
+    let start = turn .before .before .before .before .before .before .before .before .before .before .before .before .before in
     let done = rw (turn .before .before .before .wanted-kind .ensures) at (c .before .before .before .before .one-role .ensures) in
-    written-room _ _ _ _ _ _ _ (turn .before .before .before .before .before .before .before .before .before .before .before .before .before .pre .0) (turn .before .before .before .before .before .before .before .before .before .before .before .before .before .pre .1) (turn .before .before .loop .inv .0) (turn .run-end .ensures) done
+    written-room _ _ _ _ _ _ _ (start .pre .0) (start .pre .1) (turn .before .before .loop .inv .0) (turn .run-end .ensures) done
 
 add-m : tie.Need-add-m Inv-loop μ-loop
 add-m c =
     let turn = c .before .before .before .before .before .before .before .before .before .before .before .before .before in
+    let start = turn .before .before .before .before .before .before .before .before .before .before .before .before .before in
     let done = rw (turn .before .before .before .wanted-kind .ensures) at (c .before .before .before .before .before .before .before .one-role .ensures) in
     omega (
       arith,
-      written-step _ _ _ _ _ _ _ (turn .before .before .before .before .before .before .before .before .before .before .before .before .before .pre .0) (turn .before .before .before .before .before .before .before .before .before .before .before .before .before .pre .1) (turn .before .before .loop .inv .0) (turn .run-end .ensures) done,
+      written-step _ _ _ _ _ _ _ (start .pre .0) (start .pre .1) (turn .before .before .loop .inv .0) (turn .run-end .ensures) done,
       turn .before .before .loop .inv .0 .small,
       turn .before .loop-test .taken,
-      pairs-fit _ _ _ _ _ (turn .before .before .before .before .before .before .before .before .before .before .before .before .before .pre .0) .few,
+      pairs-fit _ _ _ _ _ (start .pre .0) .few,
     )
 
 loop-less : tie.Need-loop-less Inv-loop μ-loop
@@ -160,9 +173,10 @@ loop-less c =
 loop-again : tie.Need-loop-again Inv-loop μ-loop
 loop-again c =
     let turn = c .before .before .before .before .before .before .before .before .before .before .before .before .before in
+    let start = turn .before .before .before .before .before .before .before .before .before .before .before .before .before in
     let done = rw (turn .before .before .before .wanted-kind .ensures) at (c .before .before .before .before .before .before .before .one-role .ensures) in (
-      written-more _ _ _ _ _ _ _ (turn .before .before .before .before .before .before .before .before .before .before .before .before .before .pre .0) (turn .before .before .before .before .before .before .before .before .before .before .before .before .before .pre .1) (turn .before .before .loop .inv .0) (turn .run-end .ensures) done (c .before .before .fill .ensures),
-      keeping-more _ _ _ _ _ _ (sound-shape _ (turn .before .before .before .before .before .before .before .before .before .before .before .before .before .pre .0 .sound)) (pairs-fit _ _ _ _ _ (turn .before .before .before .before .before .before .before .before .before .before .before .before .before .pre .0)) (turn .before .before .loop .inv .1) (turn .run-end .ensures) (c .before .before .before .before .before .before .before .before .before .before .before .kept-of .ensures),
+      written-more _ _ _ _ _ _ _ (start .pre .0) (start .pre .1) (turn .before .before .loop .inv .0) (turn .run-end .ensures) done (c .before .before .fill .ensures),
+      keeping-more _ _ _ _ _ _ (sound-shape _ (start .pre .0 .sound)) (pairs-fit _ _ _ _ _ (start .pre .0)) (turn .before .before .loop .inv .1) (turn .run-end .ensures) (c .before .before .before .before .before .before .before .before .before .before .before .kept-of .ensures),
     )
 
 same-length : tie.Need-same-length Inv-loop μ-loop
