@@ -23,7 +23,7 @@ use table::logic::smaller;
 use tree::Checked;
 use tree::Stepped;
 
-// The step of a call that refusals 1 to 7 do not apply to: writes the lines to the front of the result columns and answers
+// The step of a call that refusals 1 to 7 do not apply to: writes the lines to the front of the result columns and tells
 // their number and the kept count, or refuses with 8 and leaves the columns as they were.
 pub fn step_known(
     key: &[usize],
@@ -40,8 +40,13 @@ pub fn step_known(
     out_role: &mut [usize],
     out_row: &mut [usize],
 ) -> Stepped
-    requires { ⌜ Known (tableOf (now key) (now size) (now level) (now kind) (now name) count) (askOf axis test «test_name») (now role) (now row) ⌝ }
-    ensures { λ r. ⌜ Leaves (stepOutcome (tableOf (now (key .entry)) (now (size .entry)) (now (level .entry)) (now (kind .entry)) (now (name .entry)) count) (now (role .entry)) (now (row .entry)) (askOf axis test «test_name») (now («out_role» .entry)) (now («out_row» .entry))) r (now («out_role» .exit)) (now («out_row» .exit)) ⌝ }
+    requires { ⌜ Known (tableOf (now key) (now size) (now level) (now kind) (now name) count)
+        (askOf axis test «test_name») (now role) (now row) ⌝ }
+    ensures { λ r. ⌜ Leaves (stepOutcome (tableOf (now (key .entry)) (now (size .entry)) (now (level .entry))
+        (now (kind .entry)) (now (name .entry)) count)
+        (now (role .entry)) (now (row .entry)) (askOf axis test «test_name»)
+        (now («out_role» .entry)) (now («out_row» .entry)))
+        r (now («out_role» .exit)) (now («out_row» .exit)) ⌝ }
 {
     let mut up = [0usize; 4096];
     role::parents_for(axis, size, level, count, &mut up);
@@ -100,7 +105,11 @@ pub fn step(
     out_role: &mut [usize],
     out_row: &mut [usize],
 ) -> Stepped
-    ensures { λ r. ⌜ Leaves (stepOutcome (tableOf (now (key .entry)) (now (size .entry)) (now (level .entry)) (now (kind .entry)) (now (name .entry)) count) (now (role .entry)) (now (row .entry)) (askOf axis test «test_name») (now («out_role» .entry)) (now («out_row» .entry))) r (now («out_role» .exit)) (now («out_row» .exit)) ⌝ }
+    ensures { λ r. ⌜ Leaves (stepOutcome (tableOf (now (key .entry)) (now (size .entry)) (now (level .entry))
+        (now (kind .entry)) (now (name .entry)) count)
+        (now (role .entry)) (now (row .entry)) (askOf axis test «test_name»)
+        (now («out_role» .entry)) (now («out_row» .entry)))
+        r (now («out_role» .exit)) (now («out_row» .exit)) ⌝ }
 {
     let checked = checks::check_call(
         key,

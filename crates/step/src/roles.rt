@@ -56,8 +56,11 @@ pub fn count_all(
     test: usize,
     test_name: usize,
 ) -> usize
-    requires { ⌜ Steps (tableOf (now key) (now size) (now level) (now kind) (now name) count) (askOf axis test «test_name») (now up) (now role) (now row) ⌝ }
-    ensures { λ r. ⌜ r ≡ length (stepList (tableOf (now (key .entry)) (now (size .entry)) (now (level .entry)) (now (kind .entry)) (now (name .entry)) count) (askOf axis test «test_name») (pairsOf (now (role .entry)) (now (row .entry)))) ⌝ }
+    requires { ⌜ Steps (tableOf (now key) (now size) (now level) (now kind) (now name) count)
+        (askOf axis test «test_name») (now up) (now role) (now row) ⌝ }
+    ensures { λ r. ⌜ r ≡ length (stepList (tableOf (now (key .entry)) (now (size .entry)) (now (level .entry))
+        (now (kind .entry)) (now (name .entry)) count)
+        (askOf axis test «test_name») (pairsOf (now (role .entry)) (now (row .entry)))) ⌝ }
 {
     let want_kind = wanted_kind(test);
     let mut words = [0u64; 64];
@@ -109,9 +112,15 @@ pub fn write_all(
     out_role: &mut [usize],
     out_row: &mut [usize],
 ) -> Tally
-    requires { ⌜ Steps (tableOf (now key) (now size) (now level) (now kind) (now name) count) (askOf axis test «test_name») (now up) (now role) (now row) ⌝ }
-    requires { ⌜ Fits (tableOf (now key) (now size) (now level) (now kind) (now name) count) (askOf axis test «test_name») (now role) (now row) (now «out_role») (now «out_row») ⌝ }
-    ensures { λ r. ⌜ Lists (tableOf (now (key .entry)) (now (size .entry)) (now (level .entry)) (now (kind .entry)) (now (name .entry)) count) (askOf axis test «test_name») (now (role .entry)) (now (row .entry)) (now («out_role» .entry)) (now («out_row» .entry)) (r .listed) (now («out_role» .exit)) (now («out_row» .exit)) ⌝ }
+    requires { ⌜ Steps (tableOf (now key) (now size) (now level) (now kind) (now name) count)
+        (askOf axis test «test_name») (now up) (now role) (now row) ⌝ }
+    requires { ⌜ Fits (tableOf (now key) (now size) (now level) (now kind) (now name) count)
+        (askOf axis test «test_name») (now role) (now row) (now «out_role») (now «out_row») ⌝ }
+    ensures { λ r. ⌜ Lists (tableOf (now (key .entry)) (now (size .entry)) (now (level .entry))
+        (now (kind .entry)) (now (name .entry)) count)
+        (askOf axis test «test_name») (now (role .entry)) (now (row .entry))
+        (now («out_role» .entry)) (now («out_row» .entry)) (r .listed)
+        (now («out_role» .exit)) (now («out_row» .exit)) ⌝ }
     ensures { λ r. ⌜ r .kept ≡ keptCount axis (now (level .entry)) (pairsOf (now (role .entry)) (now (row .entry))) ⌝ }
 {
     let want_kind = wanted_kind(test);
