@@ -8,15 +8,18 @@ use Rattle.step.proofs.step_known.Statement.{statement}
 use Rattle.step.proofs.step_known.Tie as tie
 
 parents-for-requires : tie.Need-parents-for-requires
-parents-for-requires c κs = sound-shape _ (c .before .before .before .before .before .before .before .before .before .before .pre .sound)
+parents-for-requires c κs =
+    let start = c .before .before .before .before .before .before .before .before .before .before in
+    sound-shape _ (start .pre .sound)
 
 smaller-requires : tie.Need-smaller-requires
 smaller-requires c κs = search needs
 
 check-room-requires : tie.Need-check-room-requires
 check-room-requires c κs =
-    let known = c .before .before .before .before .before .before .before .before .before .before .before .before .before .pre in
-    record { sound = known .sound; pairs = known .pairs; asked = known .asked; parents = c .before .before .parents-for .ensures }
+    let found = c .before .before in
+    let known = found .before .before .before .before .before .before .before .before .before .before .before .pre in
+    record { sound = known .sound; pairs = known .pairs; asked = known .asked; parents = found .parents-for .ensures }
 
 enum-known-fitting : tie.Need-enum-known-fitting
 enum-known-fitting c = search needs
@@ -28,17 +31,21 @@ write-all-requires : tie.Need-write-all-requires
 unfolding roomCheck
 write-all-requires c κs =
     let told = c .before .before .before in
-    let known = told .before .before .before .before .before .before .before .before .before .before .before .before .before .before .before .before .pre in
+    let found = told .before .before .before .before .before in
+    let known = found .before .before .before .before .before .before .before .before .before .before .before .pre in
     let room = rw (told .before .before .before .smaller .ensures) at (told .before .before .check-room .ensures) in (
-      record { sound = known .sound; pairs = known .pairs; asked = known .asked; parents = told .before .before .before .before .before .parents-for .ensures },
+      record { sound = known .sound; pairs = known .pairs; asked = known .asked; parents = found .parents-for .ensures },
       room-fits _ _ _ _ _ _ (sym room ∙ told .enum-told .given .1),
     )
 
 returns : tie.Need-returns
 unfolding roomCheck
 returns c =
-    let room = rw (c .before .before .before .before .smaller .ensures) at (c .before .before .before .check-room .ensures) in
-    leaves-full _ _ _ _ _ _ _ _ (c .before .before .before .before .before .before .before .before .before .before .before .before .before .before .before .before .before .pre) (sym room ∙ c .before .fitting .given .1)
+    let asked = c .before .before .before in
+    let found = asked .before .before .before in
+    let known = found .before .before .before .before .before .before .before .before .before .before .before .pre in
+    let room = rw (asked .before .smaller .ensures) at (asked .check-room .ensures) in
+    leaves-full _ _ _ _ _ _ _ _ known (sym room ∙ c .before .fitting .given .1)
 
 same-length : tie.Need-same-length
 same-length c = search needs
@@ -49,10 +56,13 @@ same-length-2 c = search needs
 returns-2 : tie.Need-returns-2
 unfolding roomCheck
 returns-2 c =
-    let told = c .before .before .before .before .before .before .before .before in
+    let wrote = c .before .before .before .before in
+    let told = wrote .before .before .before .before in
+    let found = told .before .before .before .before .before in
+    let known = found .before .before .before .before .before .before .before .before .before .before .before .pre in
     let room = rw (told .before .before .before .smaller .ensures) at (told .before .before .check-room .ensures) in
-    leaves-listed _ _ _ _ _ _ (told .before .before .before .before .before .before .before .before .before .before .before .before .before .before .before .before .pre) (sym room ∙ told .enum-told .given .1)
-    (c .before .before .before .before .write-all .ensures .0) (c .before .before .before .before .write-all .ensures .1)
+    leaves-listed _ _ _ _ _ _ known (sym room ∙ told .enum-told .given .1)
+    (wrote .write-all .ensures .0) (wrote .write-all .ensures .1)
 
 pub step-known-spec : {M : Type 1} → statement M
 step-known-spec =

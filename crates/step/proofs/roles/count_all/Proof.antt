@@ -6,24 +6,29 @@ use lib.ListN.{length, replicate, length-replicate}
 use Rattle.tree.specs.Table.{tableOf}
 use Rattle.step.specs.Steps.{askOf}
 use Rattle.step.proofs.RowSetLaws.{blank-zeros}
-use Rattle.step.proofs.CountedLaws.{Counted, pairs-fit, counted-none, counted-asks, counted-small, counted-more, counted-done}
+use Rattle.step.proofs.CountedLaws.{Counted, pairs-fit, counted-none, counted-asks}
+use Rattle.step.proofs.CountedLaws.{counted-small, counted-more, counted-done}
 use borrow.Author.Needs.{needs}
 use Rattle.step.proofs.roles.count_all.Statement.{statement}
 use Rattle.step.proofs.roles.count_all.Tie as tie
 
 abbrev Inv-loop : tie.InvT-loop
-Inv-loop key size level kind name count up role row axis test test-name want-kind words₀ scratch₀ total₀ i₀ words scratch total i =
+Inv-loop key size level kind name count up role row axis test test-name want-kind words₀ scratch₀ total₀ i₀
+    words scratch total i =
     Counted (tableOf key size level kind name count) (askOf axis test test-name) role row words scratch total i
 
 abbrev μ-loop : tie.MeasureT-loop
-μ-loop key size level kind name count up role row axis test test-name want-kind words₀ scratch₀ total₀ i₀ words scratch total i =
+μ-loop key size level kind name count up role row axis test test-name want-kind words₀ scratch₀ total₀ i₀
+    words scratch total i =
     length role - i
 
 wanted-kind-requires : tie.Need-wanted-kind-requires Inv-loop μ-loop
 wanted-kind-requires c κs = search needs
 
 loop-holds : tie.Need-loop-holds Inv-loop μ-loop
-loop-holds c = counted-none _ _ _ _ _ (c .before .before .before .before .before .before .before .before .pre) (replicate {A = ℕ} 64 0) (replicate {A = ℕ} 4096 0) blank-zeros (length-replicate {A = ℕ} 4096 0)
+loop-holds c =
+    counted-none _ _ _ _ _ (c .before .before .before .before .before .before .before .before .pre)
+    (replicate {A = ℕ} 64 0) (replicate {A = ℕ} 4096 0) blank-zeros (length-replicate {A = ℕ} 4096 0)
 
 run-end-requires : tie.Need-run-end-requires Inv-loop μ-loop
 run-end-requires c κs = search needs
@@ -39,7 +44,8 @@ part-one-role-start c = search needs
 
 part-one-role-end : tie.Need-part-one-role-end Inv-loop μ-loop
 part-one-role-end c =
-    omega (arith, c .run-end .ensures .within, pairs-fit _ _ _ _ _ (c .before .before .before .before .before .before .before .before .before .before .before .pre) .even)
+    let start = c .before .before .before .before .before .before .before .before .before .before .before in
+    omega (arith, c .run-end .ensures .within, pairs-fit _ _ _ _ _ (start .pre) .even)
 
 slice-aggregate-one-role : tie.Need-slice-aggregate-one-role Inv-loop μ-loop
 slice-aggregate-one-role c = search needs
@@ -47,16 +53,19 @@ slice-aggregate-one-role c = search needs
 one-role-requires : tie.Need-one-role-requires Inv-loop μ-loop
 one-role-requires c κs =
     let turn = c .before .before .before in
-    rw (turn .before .before .before .wanted-kind .ensures)
-    (counted-asks _ _ _ _ _ (turn .before .before .before .before .before .before .before .before .before .before .before .pre) _ (turn .before .before .loop .inv) (turn .run-end .ensures))
+    let head = turn .before .before in
+    let start = head .before .before .before .before .before .before .before .before .before in
+    rw (head .before .wanted-kind .ensures)
+    (counted-asks _ _ _ _ _ (start .pre) _ (head .loop .inv) (turn .run-end .ensures))
 
 add-total : tie.Need-add-total Inv-loop μ-loop
 add-total c =
     let turn = c .before .before .before .before .before in
-    let start = turn .before .before .before .before .before .before .before .before .before .before .before in
-    let done = rw (turn .before .before .before .wanted-kind .ensures) at (c .before .one-role .ensures) in
-    let small = counted-small _ _ _ _ _ (start .pre) (turn .before .before .loop .inv) (turn .run-end .ensures) done in
-    omega (arith, turn .before .before .loop .inv .small, turn .before .before .loop .inv .within, pairs-fit _ _ _ _ _ (start .pre) .few)
+    let head = turn .before .before in
+    let start = head .before .before .before .before .before .before .before .before .before in
+    let done = rw (head .before .wanted-kind .ensures) at (c .before .one-role .ensures) in
+    let small = counted-small _ _ _ _ _ (start .pre) (head .loop .inv) (turn .run-end .ensures) done in
+    omega (arith, head .loop .inv .small, head .loop .inv .within, pairs-fit _ _ _ _ _ (start .pre) .few)
 
 loop-less : tie.Need-loop-less Inv-loop μ-loop
 loop-less c =
@@ -66,11 +75,15 @@ loop-less c =
 loop-again : tie.Need-loop-again Inv-loop μ-loop
 loop-again c =
     let turn = c .before .before .before .before .before in
-    let done = rw (turn .before .before .before .wanted-kind .ensures) at (c .before .one-role .ensures) in
-    counted-more _ _ _ _ _ (turn .before .before .before .before .before .before .before .before .before .before .before .pre) (turn .before .before .loop .inv) (turn .run-end .ensures) done
+    let head = turn .before .before in
+    let start = head .before .before .before .before .before .before .before .before .before in
+    let done = rw (head .before .wanted-kind .ensures) at (c .before .one-role .ensures) in
+    counted-more _ _ _ _ _ (start .pre) (head .loop .inv) (turn .run-end .ensures) done
 
 returns : tie.Need-returns Inv-loop μ-loop
-returns c = counted-done _ _ _ _ _ (c .before .before .before .before .before .before .before .before .before .before .pre) (c .before .loop .inv) (c .loop-test .left)
+returns c =
+    let start = c .before .before .before .before .before .before .before .before .before .before in
+    counted-done _ _ _ _ _ (start .pre) (c .before .loop .inv) (c .loop-test .left)
 
 pub count-all-spec : {M : Type 1} → statement M
 count-all-spec =

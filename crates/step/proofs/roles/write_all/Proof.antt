@@ -1,5 +1,5 @@
--- `step::roles::write_all` meets its contract. The lines of the roles before place i stand in the result columns, and their
--- kept pairs are counted. Assumes nothing.
+-- `step::roles::write_all` meets its contract. The lines of the roles before place i stand in the result columns, and
+-- their kept pairs are counted. Assumes nothing.
 use Prim.Native.Nat.{ℕ, _-_}
 use mathlib.Core.Path.{sym}
 use native.Mathlib.Omega.{arith}
@@ -9,20 +9,24 @@ use Rattle.tree.proofs.SoundLaws.{sound-shape}
 use Rattle.step.specs.Steps.{askOf}
 use Rattle.step.proofs.RowSetLaws.{blank-zeros}
 use Rattle.step.proofs.CountedLaws.{pairs-fit}
-use Rattle.step.proofs.WrittenLaws.{Written, written-none, written-roles, written-rows, written-start}
-use Rattle.step.proofs.WrittenLaws.{written-starts, written-asks, written-room, written-step, written-more, written-done}
+use Rattle.step.proofs.WrittenLaws.{Written, written-none, written-roles, written-rows}
+use Rattle.step.proofs.WrittenLaws.{written-start, written-starts, written-asks, written-room}
+use Rattle.step.proofs.WrittenLaws.{written-step, written-more, written-done}
 use Rattle.step.proofs.KeptRunLaws.{Keeping, keeping-none, keeping-asks, run-most, keeping-more, keeping-done}
 use borrow.Author.Needs.{needs}
 use Rattle.step.proofs.roles.write_all.Statement.{statement}
 use Rattle.step.proofs.roles.write_all.Tie as tie
 
 abbrev Inv-loop : tie.InvT-loop
-Inv-loop key size level kind name count up role row axis test test-name out-role₀ out-row₀ want-kind words₀ kept₀ m₀ i₀ out-role out-row words kept m i =
-    Written (tableOf key size level kind name count) (askOf axis test test-name) role row out-role₀ out-row₀ words out-role out-row m i
+Inv-loop key size level kind name count up role row axis test test-name out-role₀ out-row₀ want-kind words₀ kept₀ m₀ i₀
+    out-role out-row words kept m i =
+    Written (tableOf key size level kind name count) (askOf axis test test-name) role row
+    out-role₀ out-row₀ words out-role out-row m i
     × Keeping axis level role row kept i
 
 abbrev μ-loop : tie.MeasureT-loop
-μ-loop key size level kind name count up role row axis test test-name out-role₀ out-row₀ want-kind words₀ kept₀ m₀ i₀ out-role out-row words kept m i =
+μ-loop key size level kind name count up role row axis test test-name out-role₀ out-row₀ want-kind words₀ kept₀ m₀ i₀
+    out-role out-row words kept m i =
     length role - i
 
 wanted-kind-requires : tie.Need-wanted-kind-requires Inv-loop μ-loop
@@ -49,26 +53,31 @@ part-kept-of-start c = search needs
 
 part-kept-of-end : tie.Need-part-kept-of-end Inv-loop μ-loop
 part-kept-of-end c =
-    let start = c .before .before .before .before .before .before .before .before .before .before .before .before .before in
+    let head = c .before .before in
+    let start = head .before .before .before .before .before .before .before .before .before .before .before in
     omega (arith, c .run-end .ensures .within, pairs-fit _ _ _ _ _ (start .pre .0) .even)
 
 kept-of-requires : tie.Need-kept-of-requires Inv-loop μ-loop
 kept-of-requires c κs =
     let turn = c .before in
-    let start = turn .before .before .before .before .before .before .before .before .before .before .before .before .before in
-    keeping-asks (start .args .axis) _ _ _ _ _ (sound-shape _ (start .pre .0 .sound)) (pairs-fit _ _ _ _ _ (start .pre .0)) _ _ (turn .run-end .ensures)
+    let head = turn .before .before in
+    let start = head .before .before .before .before .before .before .before .before .before .before .before in
+    keeping-asks (start .args .axis) _ _ _ _ _ (sound-shape _ (start .pre .0 .sound))
+    (pairs-fit _ _ _ _ _ (start .pre .0)) _ _ (turn .run-end .ensures)
 
 add-kept : tie.Need-add-kept Inv-loop μ-loop
 add-kept c =
     let turn = c .before .before in
-    let start = turn .before .before .before .before .before .before .before .before .before .before .before .before .before in
+    let head = turn .before .before in
+    let start = head .before .before .before .before .before .before .before .before .before .before .before in
     omega (
       arith,
-      turn .before .before .loop .inv .1 .small,
+      head .loop .inv .1 .small,
       turn .run-end .ensures .within,
       turn .run-end .ensures .after,
       c .kept-of .ensures,
-      run-most (start .args .axis) _ (start .args .level .now) _ _ _ (sound-shape _ (start .pre .0 .sound)) (pairs-fit _ _ _ _ _ (start .pre .0)) _ _ (turn .run-end .ensures),
+      run-most (start .args .axis) _ (start .args .level .now) _ _ _ (sound-shape _ (start .pre .0 .sound))
+          (pairs-fit _ _ _ _ _ (start .pre .0)) _ _ (turn .run-end .ensures),
       pairs-fit _ _ _ _ _ (start .pre .0) .few,
     )
 
@@ -84,26 +93,36 @@ part-one-role-start c = search needs
 part-one-role-end : tie.Need-part-one-role-end Inv-loop μ-loop
 part-one-role-end c =
     let turn = c .before .before in
-    let start = turn .before .before .before .before .before .before .before .before .before .before .before .before .before in
+    let head = turn .before .before in
+    let start = head .before .before .before .before .before .before .before .before .before .before .before in
     omega (arith, turn .run-end .ensures .within, pairs-fit _ _ _ _ _ (start .pre .0) .even)
 
 mul-one-role-2 : tie.Need-mul-one-role-2 Inv-loop μ-loop
 mul-one-role-2 c =
     let turn = c .before .before .before .before in
-    let start = turn .before .before .before .before .before .before .before .before .before .before .before .before .before in
-    omega (arith, turn .before .before .loop .inv .0 .small, turn .before .loop-test .taken, pairs-fit _ _ _ _ _ (start .pre .0) .few)
+    let head = turn .before .before in
+    let start = head .before .before .before .before .before .before .before .before .before .before .before in
+    omega (arith, head .loop .inv .0 .small, turn .before .loop-test .taken, pairs-fit _ _ _ _ _ (start .pre .0) .few)
 
 sub-one-role-2 : tie.Need-sub-one-role-2 Inv-loop μ-loop
 sub-one-role-2 c =
     let turn = c .before .before .before .before in
-    let start = turn .before .before .before .before .before .before .before .before .before .before .before .before .before in
-    omega (arith, written-start _ _ _ _ _ _ _ (start .pre .0) (start .pre .1) (turn .before .before .loop .inv .0) (turn .run-end .ensures))
+    let head = turn .before .before in
+    let start = head .before .before .before .before .before .before .before .before .before .before .before in
+    omega (
+      arith,
+      written-start _ _ _ _ _ _ _ (start .pre .0) (start .pre .1) (head .loop .inv .0) (turn .run-end .ensures),
+    )
 
 part-one-role-start-2 : tie.Need-part-one-role-start-2 Inv-loop μ-loop
 part-one-role-start-2 c =
     let turn = c .before .before .before .before in
-    let start = turn .before .before .before .before .before .before .before .before .before .before .before .before .before in
-    omega (arith, written-start _ _ _ _ _ _ _ (start .pre .0) (start .pre .1) (turn .before .before .loop .inv .0) (turn .run-end .ensures))
+    let head = turn .before .before in
+    let start = head .before .before .before .before .before .before .before .before .before .before .before in
+    omega (
+      arith,
+      written-start _ _ _ _ _ _ _ (start .pre .0) (start .pre .1) (head .loop .inv .0) (turn .run-end .ensures),
+    )
 
 part-one-role-end-2 : tie.Need-part-one-role-end-2 Inv-loop μ-loop
 part-one-role-end-2 c = search needs
@@ -111,27 +130,37 @@ part-one-role-end-2 c = search needs
 one-role-requires : tie.Need-one-role-requires Inv-loop μ-loop
 one-role-requires c κs =
     let turn = c .before .before .before .before .before in
-    let start = turn .before .before .before .before .before .before .before .before .before .before .before .before .before in
-    rw (turn .before .before .before .wanted-kind .ensures)
-    (written-asks _ _ _ _ _ _ _ (start .pre .0) (start .pre .1) (turn .before .before .loop .inv .0) (turn .run-end .ensures))
+    let head = turn .before .before in
+    let start = head .before .before .before .before .before .before .before .before .before .before .before in
+    rw (head .before .wanted-kind .ensures)
+    (written-asks _ _ _ _ _ _ _ (start .pre .0) (start .pre .1) (head .loop .inv .0) (turn .run-end .ensures))
 
 mul-fill : tie.Need-mul-fill Inv-loop μ-loop
 mul-fill c =
     let turn = c .before .before .before .before .before .before .before .before in
-    let start = turn .before .before .before .before .before .before .before .before .before .before .before .before .before in
-    omega (arith, turn .before .before .loop .inv .0 .small, turn .before .loop-test .taken, pairs-fit _ _ _ _ _ (start .pre .0) .few)
+    let head = turn .before .before in
+    let start = head .before .before .before .before .before .before .before .before .before .before .before in
+    omega (arith, head .loop .inv .0 .small, turn .before .loop-test .taken, pairs-fit _ _ _ _ _ (start .pre .0) .few)
 
 sub-fill : tie.Need-sub-fill Inv-loop μ-loop
 sub-fill c =
     let turn = c .before .before .before .before .before .before .before .before in
-    let start = turn .before .before .before .before .before .before .before .before .before .before .before .before .before in
-    omega (arith, written-starts _ _ _ _ _ _ _ (start .pre .0) (start .pre .1) (turn .before .before .loop .inv .0) (turn .run-end .ensures))
+    let head = turn .before .before in
+    let start = head .before .before .before .before .before .before .before .before .before .before .before in
+    omega (
+      arith,
+      written-starts _ _ _ _ _ _ _ (start .pre .0) (start .pre .1) (head .loop .inv .0) (turn .run-end .ensures),
+    )
 
 part-fill-start : tie.Need-part-fill-start Inv-loop μ-loop
 part-fill-start c =
     let turn = c .before .before .before .before .before .before .before .before in
-    let start = turn .before .before .before .before .before .before .before .before .before .before .before .before .before in
-    omega (arith, written-starts _ _ _ _ _ _ _ (start .pre .0) (start .pre .1) (turn .before .before .loop .inv .0) (turn .run-end .ensures))
+    let head = turn .before .before in
+    let start = head .before .before .before .before .before .before .before .before .before .before .before in
+    omega (
+      arith,
+      written-starts _ _ _ _ _ _ _ (start .pre .0) (start .pre .1) (head .loop .inv .0) (turn .run-end .ensures),
+    )
 
 part-fill-end : tie.Need-part-fill-end Inv-loop μ-loop
 part-fill-end c = search needs
@@ -139,8 +168,9 @@ part-fill-end c = search needs
 mul-fill-2 : tie.Need-mul-fill-2 Inv-loop μ-loop
 mul-fill-2 c =
     let turn = c .before .before .before .before .before .before .before .before .before in
-    let start = turn .before .before .before .before .before .before .before .before .before .before .before .before .before in
-    omega (arith, turn .before .before .loop .inv .0 .small, turn .before .loop-test .taken, pairs-fit _ _ _ _ _ (start .pre .0) .few)
+    let head = turn .before .before in
+    let start = head .before .before .before .before .before .before .before .before .before .before .before in
+    omega (arith, head .loop .inv .0 .small, turn .before .loop-test .taken, pairs-fit _ _ _ _ _ (start .pre .0) .few)
 
 shared-slice-read-fill : tie.Need-shared-slice-read-fill Inv-loop μ-loop
 shared-slice-read-fill c = search needs
@@ -148,52 +178,65 @@ shared-slice-read-fill c = search needs
 fill-requires : tie.Need-fill-requires Inv-loop μ-loop
 fill-requires c κs =
     let turn = c .before .before .before .before .before .before .before .before .before .before in
-    let start = turn .before .before .before .before .before .before .before .before .before .before .before .before .before in
-    let done = rw (turn .before .before .before .wanted-kind .ensures) at (c .before .before .before .before .one-role .ensures) in
-    written-room _ _ _ _ _ _ _ (start .pre .0) (start .pre .1) (turn .before .before .loop .inv .0) (turn .run-end .ensures) done
+    let head = turn .before .before in
+    let start = head .before .before .before .before .before .before .before .before .before .before .before in
+    let done = rw (head .before .wanted-kind .ensures) at (c .before .before .before .before .one-role .ensures) in
+    written-room _ _ _ _ _ _ _ (start .pre .0) (start .pre .1) (head .loop .inv .0) (turn .run-end .ensures) done
 
 add-m : tie.Need-add-m Inv-loop μ-loop
 add-m c =
-    let turn = c .before .before .before .before .before .before .before .before .before .before .before .before .before in
-    let start = turn .before .before .before .before .before .before .before .before .before .before .before .before .before in
-    let done = rw (turn .before .before .before .wanted-kind .ensures) at (c .before .before .before .before .before .before .before .one-role .ensures) in
+    let ran = c .before .before .before .before .before .before .before in
+    let turn = ran .before .before .before .before .before .before in
+    let head = turn .before .before in
+    let start = head .before .before .before .before .before .before .before .before .before .before .before in
+    let done = rw (head .before .wanted-kind .ensures) at (ran .one-role .ensures) in
     omega (
       arith,
-      written-step _ _ _ _ _ _ _ (start .pre .0) (start .pre .1) (turn .before .before .loop .inv .0) (turn .run-end .ensures) done,
-      turn .before .before .loop .inv .0 .small,
+      written-step _ _ _ _ _ _ _ (start .pre .0) (start .pre .1) (head .loop .inv .0) (turn .run-end .ensures) done,
+      head .loop .inv .0 .small,
       turn .before .loop-test .taken,
       pairs-fit _ _ _ _ _ (start .pre .0) .few,
     )
 
 loop-less : tie.Need-loop-less Inv-loop μ-loop
 loop-less c =
-    let turn = c .before .before .before .before .before .before .before .before .before .before .before .before .before in
+    let ran = c .before .before .before .before .before .before .before in
+    let turn = ran .before .before .before .before .before .before in
     omega (arith, turn .run-end .ensures .after, turn .run-end .ensures .within)
 
 loop-again : tie.Need-loop-again Inv-loop μ-loop
 loop-again c =
-    let turn = c .before .before .before .before .before .before .before .before .before .before .before .before .before in
-    let start = turn .before .before .before .before .before .before .before .before .before .before .before .before .before in
-    let done = rw (turn .before .before .before .wanted-kind .ensures) at (c .before .before .before .before .before .before .before .one-role .ensures) in (
-      written-more _ _ _ _ _ _ _ (start .pre .0) (start .pre .1) (turn .before .before .loop .inv .0) (turn .run-end .ensures) done (c .before .before .fill .ensures),
-      keeping-more _ _ _ _ _ _ (sound-shape _ (start .pre .0 .sound)) (pairs-fit _ _ _ _ _ (start .pre .0)) (turn .before .before .loop .inv .1) (turn .run-end .ensures) (c .before .before .before .before .before .before .before .before .before .before .before .kept-of .ensures),
+    let ran = c .before .before .before .before .before .before .before in
+    let turn = ran .before .before .before .before .before .before in
+    let head = turn .before .before in
+    let start = head .before .before .before .before .before .before .before .before .before .before .before in
+    let done = rw (head .before .wanted-kind .ensures) at (ran .one-role .ensures) in (
+      written-more _ _ _ _ _ _ _ (start .pre .0) (start .pre .1) (head .loop .inv .0) (turn .run-end .ensures) done
+          (c .before .before .fill .ensures),
+      keeping-more _ _ _ _ _ _ (sound-shape _ (start .pre .0 .sound)) (pairs-fit _ _ _ _ _ (start .pre .0))
+          (head .loop .inv .1) (turn .run-end .ensures)
+          (ran .before .before .before .before .kept-of .ensures),
     )
 
 same-length : tie.Need-same-length Inv-loop μ-loop
 same-length c =
-    let pre = c .before .before .before .before .before .before .before .before .before .before .before .before .pre in
+    let head = c .before in
+    let pre = head .before .before .before .before .before .before .before .before .before .before .before .pre in
     written-roles _ _ _ _ _ _ _ (pre .0) (pre .1) (c .before .loop .inv .0)
 
 same-length-2 : tie.Need-same-length-2 Inv-loop μ-loop
 same-length-2 c =
-    let pre = c .before .before .before .before .before .before .before .before .before .before .before .before .pre in
+    let head = c .before in
+    let pre = head .before .before .before .before .before .before .before .before .before .before .before .pre in
     written-rows _ _ _ _ _ _ _ (pre .0) (pre .1) (c .before .loop .inv .0)
 
 returns : tie.Need-returns Inv-loop μ-loop
 returns c =
-    let pre = c .before .before .before .before .before .before .before .before .before .before .before .before .pre in (
+    let head = c .before in
+    let pre = head .before .before .before .before .before .before .before .before .before .before .before .pre in (
       written-done _ _ _ _ _ _ _ (pre .0) (pre .1) (c .before .loop .inv .0) (c .loop-test .left),
-      keeping-done _ _ _ _ _ _ (sound-shape _ (pre .0 .sound)) (pairs-fit _ _ _ _ _ (pre .0)) (c .before .loop .inv .1) (c .loop-test .left),
+      keeping-done _ _ _ _ _ _ (sound-shape _ (pre .0 .sound)) (pairs-fit _ _ _ _ _ (pre .0))
+          (c .before .loop .inv .1) (c .loop-test .left),
     )
 
 pub write-all-spec : {M : Type 1} → statement M
