@@ -1,5 +1,5 @@
-// The example program: which setpoints of document 01's small farm do roles 5 and 7 reach? It runs M1 and prints each result
-// with the key of its row, then the number of results and the kept count.
+// The example program: which setpoints of document 01's small farm do roles 5 and 7 reach? It runs M1 and prints each
+// result with the key of its row, then the number of results and the kept count.
 use io::print_decimal;
 use libc::STDOUT_FILENO;
 use tree::Stepped;

@@ -86,8 +86,8 @@ pub extern "C" fn reach_step(
     ))
 }
 
-// The piece becomes the last child of the row of a key: the new count in first, the first moved row in second, and the move;
-// or refusal 1, 2 or 9 to 14.
+// The piece becomes the last child of the row of a key: the new count in first, the first moved row in second, and the
+// move; or refusal 1, 2 or 9 to 14.
 #[no_mangle]
 pub extern "C" fn reach_insert(
     key: &mut [usize],

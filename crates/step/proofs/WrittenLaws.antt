@@ -1,5 +1,5 @@
--- Writing the lines role by role: `written-none` at the start, `written-more` for a run more, `written-done` at the end; what
--- the step of one role and the filling of its roles ask for: `written-asks`, `written-room`. Assumes nothing.
+-- Writing the lines role by role: `written-none` at the start, `written-more` for a run more, `written-done` at the
+-- end; what the step of one role and the filling of its roles ask for: `written-asks`, `written-room`. Assumes nothing.
 use mathlib.Core.Path.{_≡_, refl, sym, ap, ap₂, subst, _∙_}
 use mathlib.Core.List.{List, [], _∷_, _++_, append-nil, append-assoc}
 use Prim.Native.Nat.{ℕ, suc, _+_, _-_, _*_, _<_, _≤_}
@@ -75,12 +75,16 @@ module _ (t : Table) (a : Ask) (up role row oldRole oldRow : List ℕ) (s : Step
     rows = wrote-none oldRow;
   }
 
-  module _ {words outRole outRow : List ℕ} {m i : ℕ} (w : Written t a role row oldRole oldRow words outRole outRow m i) where
+  module _ {words outRole outRow : List ℕ} {m i : ℕ}
+      (w : Written t a role row oldRole oldRow words outRole outRow m i) where
     many : m ≡ length (w .done)
     many = w .rows .many ∙ length-rows (w .done)
 
     all : length (stepList t a (pairsOf role row)) ≡ m + length (stepList t a (pairsFrom role row i))
-    all = ap length (w .rest) ∙ length-append (w .done) _ ∙ ap (λ (k : ℕ). k + length (stepList t a (pairsFrom role row i))) (sym many)
+    all =
+        ap length (w .rest)
+        ∙ length-append (w .done) _
+        ∙ ap (λ (k : ℕ). k + length (stepList t a (pairsFrom role row i))) (sym many)
 
     -- the columns keep their lengths
     pub written-roles : length outRole ≡ length oldRole
@@ -94,7 +98,8 @@ module _ (t : Table) (a : Ask) (up role row oldRole oldRow : List ℕ) (s : Step
       abbrev found : List ℕ
       found = roleRows t a (part row i j)
 
-      run-all : length (stepList t a (pairsFrom role row i)) ≡ length found + length (stepList t a (pairsFrom role row j))
+      run-all : length (stepList t a (pairsFrom role row i))
+          ≡ length found + length (stepList t a (pairsFrom role row j))
       run-all =
           ap length (step-at t a up role row s i j e) ∙ length-append (withRole (at role i) found) _
           ∙ ap (λ (k : ℕ). k + length (stepList t a (pairsFrom role row j))) (length-role (at role i) found)
@@ -115,12 +120,14 @@ module _ (t : Table) (a : Ask) (up role row oldRole oldRow : List ℕ) (s : Step
           (d : RoleDone (a .axis) (t .level) (t .kind) (t .name) (t .count) (wantedKind (a .test)) (a .name)
           (part row i j) words′ (midOf m (length outRow - m) outRow) r rows′) where
         pub written-room : r ≤ length (midOf m (length outRole - m) outRole)
-        written-room = simp (length-take, length-drop) (omega (arith, d .wrote .many, all, run-all, written-roles, f .roles))
+        written-room =
+            simp (length-take, length-drop) (omega (arith, d .wrote .many, all, run-all, written-roles, f .roles))
 
         pub written-step : r ≤ 4096
         written-step = omega (arith, d .wrote .many, row-most t a up role row s i j)
 
-        pub written-more : {roles′ : List ℕ} → Wrote (replicate r (at role i)) (midOf m (length outRole - m) outRole) r roles′
+        pub written-more : {roles′ : List ℕ}
+            → Wrote (replicate r (at role i)) (midOf m (length outRole - m) outRole) r roles′
             → Written t a role row oldRole oldRow words′ (putMid m (length outRole - m) outRole roles′)
             (putMid m (length outRow - m) outRow rows′) (m + r) j
         written-more g = record {

@@ -1,6 +1,6 @@
--- The walk along a chain finds a repeated key: `walk-start`, `walk-step`, `walk-less`, and its ends `fresh-true`, `fresh-false`.
--- The chains grow by a row: `chained-none`, `chained-more`. The test of a key: `key-zero`, `key-again`, `key-good`.
--- The test of a piece's key: `clash-taken`, `clash-none`.
+-- The walk along a chain finds a repeated key: `walk-start`, `walk-step`, `walk-less`, and its ends `fresh-true`,
+-- `fresh-false`. The chains grow by a row: `chained-none`, `chained-more`. The test of a key: `key-zero`, `key-again`,
+-- `key-good`. The test of a piece's key: `clash-taken`, `clash-none`.
 -- Assumes nothing.
 use mathlib.Core.Path.{_≡_, refl, sym, ap, _∙_}
 use mathlib.Core.Logic.{_⊎_, inl, inr}
@@ -45,7 +45,8 @@ unfolding lastIn
 last-in key b m j e = eqb-true _ _ (nearest-in (λ j. eqb (bucketOf (at key j)) b) m j e)
 
 -- from rows m on, below i, none has x: so the walk may stand at the last row below m in x's bucket
-pub walk : (key : List ℕ) (x i m : ℕ) → m ≤ i → ((k : ℕ) → m ≤ k → k < i → at key k ≡ x → ⊥) → Walk key x i (lastIn key (bucketOf x) m)
+pub walk : (key : List ℕ) (x i m : ℕ) → m ≤ i → ((k : ℕ) → m ≤ k → k < i → at key k ≡ x → ⊥)
+    → Walk key x i (lastIn key (bucketOf x) m)
 walk key x i m l h = record {
   within = omega (arith, last-le key (bucketOf x) m);
   passed = λ k u v e. go k u v e (ltb k m) refl;
@@ -95,7 +96,8 @@ fresh-false key x i j l e =
     let h = least-hit-le (λ k. eqb (at key k) x) i j (eq-eqb _ _ e) in
     ne-eqb (least (λ k. eqb (at key k) x) i) i (λ p. absurd (omega arith))
 
-pub walk-start : (key heads next : List ℕ) (i x b : ℕ) → Chained key heads next i → b ≡ bucketOf x → Walk key x i (at heads b)
+pub walk-start : (key heads next : List ℕ) (i x b : ℕ) → Chained key heads next i → b ≡ bucketOf x
+    → Walk key x i (at heads b)
 walk-start key heads next i x b h e =
     rw (e, h .heads-at (bucketOf x) (bucket-lt x)) (walk key x i i (le-refl i) (λ k l m p. absurd (omega arith)))
 
@@ -124,11 +126,13 @@ pub key-zero : (key : List ℕ) (i : ℕ) → at key i ≡ 0 → not (keyOk key 
 unfolding keyOk
 key-zero key i e = rw e
 
-pub key-again : (key : List ℕ) (i : ℕ) → (at key i ≡ 0 → ⊥) → eqb (rowOf key i (at key i)) i ≡ false → not (keyOk key i) ≡ true
+pub key-again : (key : List ℕ) (i : ℕ) → (at key i ≡ 0 → ⊥) → eqb (rowOf key i (at key i)) i ≡ false
+    → not (keyOk key i) ≡ true
 unfolding keyOk
 key-again key i n e = simp (ne-eqb _ _ n, e)
 
-pub key-good : (key : List ℕ) (i : ℕ) → (at key i ≡ 0 → ⊥) → eqb (rowOf key i (at key i)) i ≡ true → not (keyOk key i) ≡ false
+pub key-good : (key : List ℕ) (i : ℕ) → (at key i ≡ 0 → ⊥) → eqb (rowOf key i (at key i)) i ≡ true
+    → not (keyOk key i) ≡ false
 unfolding keyOk
 key-good key i n e = simp (ne-eqb _ _ n, e)
 

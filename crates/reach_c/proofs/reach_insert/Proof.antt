@@ -1,4 +1,4 @@
--- `reach_c::reach_insert` meets its contract: the library's answer, put into C's struct, and its columns. Assumes nothing.
+-- `reach_c::reach_insert` meets its contract: the library's answer in C's struct, and its columns. Assumes nothing.
 use mathlib.Core.Path.{ap, _∙_}
 use Rattle.reach_c.specs.Answer.{editAnswer}
 use borrow.Author.Needs.{needs}
@@ -28,7 +28,8 @@ same-length-5 c = search needs
 
 returns : tie.Need-returns
 returns c =
-    let left = c .before .before .before .before .before .before .before .before .before .before .before .insert .ensures in
+    let edited = c .before .before .before .before .before .before .before .before .before .before .before in
+    let left = edited .insert .ensures in
     record {
       answers = c .of-edit .ensures ∙ ap editAnswer (left .answers);
       key-is = left .key-is;

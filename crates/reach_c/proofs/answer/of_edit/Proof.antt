@@ -18,7 +18,12 @@ refuse-requires c κs = search needs
 
 returns : tie.Need-returns
 unfolding editAnswer
-returns c = rw (c .before .before .edited .given .1, toZ-ofZ {w = w64} {z = c .before .before .edited .given .0 .0 .moved} (record { sfits = omega (arith, c .struct-told .given .1 .1 .0) }))
+returns c =
+    let edited = c .before .before .edited .given in
+    rw (
+      edited .1,
+      toZ-ofZ {w = w64} {z = edited .0 .0 .moved} (record { sfits = omega (arith, c .struct-told .given .1 .1 .0) }),
+    )
 
 returns-2 : tie.Need-returns-2
 unfolding editAnswer

@@ -33,7 +33,8 @@ mul-result c =
 returns-2 : tie.Need-returns-2
 returns-2 c = λ e.
     let start = c .before .before .before .before .before .before .before .before .before .before in
-    le-trans (roles-most _ _ _ _ (pairs-fit _ _ _ _ _ (start .pre) .even)) (rw (c .roles .ensures) at (leb-true (c .roles .result * start .args .count) (start .args .room) e))
+    le-trans (roles-most _ _ _ _ (pairs-fit _ _ _ _ _ (start .pre) .even))
+    (rw (c .roles .ensures) at (leb-true (c .roles .result * start .args .count) (start .args .room) e))
 
 pub surely-fits-spec : {M : Type 1} → statement M
 surely-fits-spec =

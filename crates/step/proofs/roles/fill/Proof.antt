@@ -33,11 +33,12 @@ loop-less c = search needs
 
 loop-again : tie.Need-loop-again Inv-loop μ-loop
 loop-again c =
-    let loop = c .before .loop in (
+    let loop = c .before .loop in
+    let v = c .before .before .args .v in (
       omega arith,
       simp length-set (loop .inv .1),
-      wrote-as (replicate-append-replicate (loop .i) 1 (c .before .before .args .v))
-          (wrote-more (loop .inv .2) (c .before .before .args .v) (rw (length-replicate (loop .i) (c .before .before .args .v)) (omega arith))),
+      wrote-as (replicate-append-replicate (loop .i) 1 v)
+          (wrote-more (loop .inv .2) v (rw (length-replicate (loop .i) v) (omega arith))),
     )
 
 same-length : tie.Need-same-length Inv-loop μ-loop
