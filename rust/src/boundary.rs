@@ -7,11 +7,7 @@
 
 #![allow(unsafe_code)]
 
-#[cfg(feature = "edit")]
-use crate::TableMut;
-#[cfg(feature = "step")]
-use crate::{Pairs, Results};
-use crate::{Refusal, Table};
+use crate::{Pairs, Refusal, Results, Table, TableMut};
 
 /// What the library answers. What a function doesn't use is 0; on a refusal all but the first
 /// two are 0.
@@ -40,49 +36,34 @@ impl Answer {
     }
 }
 
-extern "C" {
-    fn reach_check(
-        key: *const usize,
-        key_length: usize,
-        size: *const usize,
-        size_length: usize,
-        level: *const usize,
-        level_length: usize,
-        kind: *const usize,
-        kind_length: usize,
-        name: *const usize,
-        name_length: usize,
-        count: usize,
-    ) -> Answer;
+/// Declares functions that take the columns of a table (each as pointer and length) and its count,
+/// then what stands after the semicolon.
+macro_rules! declare {
+    ($(fn $function:ident(table: *$pointer:tt; $($more:ident: $type:ty),*);)*) => {
+        extern "C" {
+            $(fn $function(
+                key: *$pointer usize,
+                key_length: usize,
+                size: *$pointer usize,
+                size_length: usize,
+                level: *$pointer usize,
+                level_length: usize,
+                kind: *$pointer usize,
+                kind_length: usize,
+                name: *$pointer usize,
+                name_length: usize,
+                count: usize
+                $(, $more: $type)*
+            ) -> Answer;)*
+        }
+    };
+}
 
-    fn reach_find(
-        key: *const usize,
-        key_length: usize,
-        size: *const usize,
-        size_length: usize,
-        level: *const usize,
-        level_length: usize,
-        kind: *const usize,
-        kind_length: usize,
-        name: *const usize,
-        name_length: usize,
-        count: usize,
-        wanted: usize,
-    ) -> Answer;
-
-    #[cfg(feature = "step")]
+declare! {
+    fn reach_check(table: *const;);
+    fn reach_find(table: *const; wanted: usize);
     fn reach_step(
-        key: *const usize,
-        key_length: usize,
-        size: *const usize,
-        size_length: usize,
-        level: *const usize,
-        level_length: usize,
-        kind: *const usize,
-        kind_length: usize,
-        name: *const usize,
-        name_length: usize,
-        count: usize,
+        table: *const;
         role: *const usize,
         role_length: usize,
         row: *const usize,
@@ -93,22 +74,10 @@ extern "C" {
         out_role: *mut usize,
         out_role_length: usize,
         out_row: *mut usize,
-        out_row_length: usize,
-    ) -> Answer;
-
-    #[cfg(feature = "edit")]
+        out_row_length: usize
+    );
     fn reach_insert(
-        key: *mut usize,
-        key_length: usize,
-        size: *mut usize,
-        size_length: usize,
-        level: *mut usize,
-        level_length: usize,
-        kind: *mut usize,
-        kind_length: usize,
-        name: *mut usize,
-        name_length: usize,
-        count: usize,
+        table: *mut;
         parent: usize,
         p_key: *const usize,
         p_key_length: usize,
@@ -120,41 +89,10 @@ extern "C" {
         p_kind_length: usize,
         p_name: *const usize,
         p_name_length: usize,
-        p_count: usize,
-    ) -> Answer;
-
-    #[cfg(feature = "edit")]
-    fn reach_delete(
-        key: *mut usize,
-        key_length: usize,
-        size: *mut usize,
-        size_length: usize,
-        level: *mut usize,
-        level_length: usize,
-        kind: *mut usize,
-        kind_length: usize,
-        name: *mut usize,
-        name_length: usize,
-        count: usize,
-        wanted: usize,
-    ) -> Answer;
-
-    #[cfg(feature = "edit")]
-    fn reach_rename(
-        key: *mut usize,
-        key_length: usize,
-        size: *mut usize,
-        size_length: usize,
-        level: *mut usize,
-        level_length: usize,
-        kind: *mut usize,
-        kind_length: usize,
-        name: *mut usize,
-        name_length: usize,
-        count: usize,
-        wanted: usize,
-        new_name: usize,
-    ) -> Answer;
+        p_count: usize
+    );
+    fn reach_delete(table: *mut; wanted: usize);
+    fn reach_rename(table: *mut; wanted: usize, new_name: usize);
 }
 
 /// Calls an exported function with the columns and the count of a table, then with the rest.
@@ -192,7 +130,6 @@ pub fn find(table: Table<'_>, wanted: usize) -> Answer {
 }
 
 /// Takes a step with an axis code, a test code and a name: refusals 1 to 8.
-#[cfg(feature = "step")]
 pub fn step(
     table: Table<'_>,
     pairs: Pairs<'_>,
@@ -220,7 +157,6 @@ pub fn step(
 }
 
 /// Makes a piece the last child of the row with the key `parent`: refusals 1, 2 and 9 to 14.
-#[cfg(feature = "edit")]
 pub fn insert(table: &mut TableMut<'_>, parent: usize, piece: Table<'_>) -> Answer {
     call!(
         reach_insert,
@@ -242,13 +178,11 @@ pub fn insert(table: &mut TableMut<'_>, parent: usize, piece: Table<'_>) -> Answ
 }
 
 /// Deletes the row with the key and its descendants: refusals 1, 2, 9 and 15.
-#[cfg(feature = "edit")]
 pub fn delete(table: &mut TableMut<'_>, wanted: usize) -> Answer {
     call!(reach_delete, table, as_mut_ptr, wanted)
 }
 
 /// Gives the row with the key another name: refusals 1, 2, 9 and 16.
-#[cfg(feature = "edit")]
 pub fn rename(table: &mut TableMut<'_>, wanted: usize, new_name: usize) -> Answer {
     call!(reach_rename, table, as_mut_ptr, wanted, new_name)
 }

@@ -25,17 +25,13 @@
 //! ```
 
 pub mod boundary;
-#[cfg(feature = "edit")]
 mod edit;
 pub mod farm;
 mod refusal;
-#[cfg(feature = "step")]
 mod step;
 mod table;
 
-#[cfg(feature = "edit")]
 pub use edit::{Edited, TableMut};
 pub use refusal::Refusal;
-#[cfg(feature = "step")]
 pub use step::{Axis, Pairs, Results, Stepped, Test};
 pub use table::Table;

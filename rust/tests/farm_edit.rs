@@ -1,7 +1,5 @@
 //! The stated edits of the small farm through the safe wrapper.
 
-#![cfg(feature = "edit")]
-
 use reach::{farm, Edited, Refusal, Table, TableMut};
 
 /// The farm in columns of eleven rows.

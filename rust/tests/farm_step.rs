@@ -1,7 +1,5 @@
 //! The stated steps of the small farm through the safe wrapper.
 
-#![cfg(feature = "step")]
-
 use reach::{farm, Axis, Pairs, Refusal, Results, Stepped, Test};
 
 const PAIRS: Pairs<'static> = Pairs { role: &[5, 5, 7], row: &[1, 2, 6] };

@@ -1,6 +1,5 @@
 //! The two programs that race.
 
-#[cfg(feature = "step")]
 use crate::steps::Step;
 use crate::tables::Columns;
 
@@ -11,13 +10,9 @@ pub type Seen = (usize, usize, usize);
 pub trait Engine {
     fn check(&self, table: &Columns) -> Seen;
     fn find(&self, table: &Columns, wanted: usize) -> Seen;
-    #[cfg(feature = "step")]
     fn step(&self, table: &Columns, step: &mut Step) -> Seen;
-    #[cfg(feature = "edit")]
     fn insert(&self, table: &mut Columns, parent: usize, piece: &Columns) -> Seen;
-    #[cfg(feature = "edit")]
     fn delete(&self, table: &mut Columns, wanted: usize) -> Seen;
-    #[cfg(feature = "edit")]
     fn rename(&self, table: &mut Columns, wanted: usize, new_name: usize) -> Seen;
 }
 
@@ -36,7 +31,6 @@ macro_rules! lend {
 }
 
 /// The same, to be changed.
-#[cfg(feature = "edit")]
 macro_rules! lend_mut {
     ($package:ident, $columns:expr) => {
         $package::TableMut {
@@ -69,7 +63,6 @@ impl Engine for Plain {
         seen!(plain::find(&lend!(plain, table), wanted))
     }
 
-    #[cfg(feature = "step")]
     fn step(&self, table: &Columns, step: &mut Step) -> Seen {
         seen!(plain::step(
             &lend!(plain, table),
@@ -79,17 +72,14 @@ impl Engine for Plain {
         ))
     }
 
-    #[cfg(feature = "edit")]
     fn insert(&self, table: &mut Columns, parent: usize, piece: &Columns) -> Seen {
         seen!(plain::insert(&mut lend_mut!(plain, table), parent, &lend!(plain, piece)))
     }
 
-    #[cfg(feature = "edit")]
     fn delete(&self, table: &mut Columns, wanted: usize) -> Seen {
         seen!(plain::delete(&mut lend_mut!(plain, table), wanted))
     }
 
-    #[cfg(feature = "edit")]
     fn rename(&self, table: &mut Columns, wanted: usize, new_name: usize) -> Seen {
         seen!(plain::rename(&mut lend_mut!(plain, table), wanted, new_name))
     }
@@ -109,7 +99,6 @@ impl Engine for Library {
         seen!(reach::boundary::find(lend!(reach, table), wanted))
     }
 
-    #[cfg(feature = "step")]
     fn step(&self, table: &Columns, step: &mut Step) -> Seen {
         seen!(reach::boundary::step(
             lend!(reach, table),
@@ -121,17 +110,14 @@ impl Engine for Library {
         ))
     }
 
-    #[cfg(feature = "edit")]
     fn insert(&self, table: &mut Columns, parent: usize, piece: &Columns) -> Seen {
         seen!(reach::boundary::insert(&mut lend_mut!(reach, table), parent, lend!(reach, piece)))
     }
 
-    #[cfg(feature = "edit")]
     fn delete(&self, table: &mut Columns, wanted: usize) -> Seen {
         seen!(reach::boundary::delete(&mut lend_mut!(reach, table), wanted))
     }
 
-    #[cfg(feature = "edit")]
     fn rename(&self, table: &mut Columns, wanted: usize, new_name: usize) -> Seen {
         seen!(reach::boundary::rename(&mut lend_mut!(reach, table), wanted, new_name))
     }

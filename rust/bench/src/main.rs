@@ -6,12 +6,11 @@
 #![allow(missing_docs)]
 
 mod checks;
-#[cfg(feature = "edit")]
 mod edits;
 mod engine;
+mod growth;
 mod race;
 mod report;
-#[cfg(feature = "step")]
 mod steps;
 mod tables;
 
@@ -19,12 +18,20 @@ use engine::{Engine, Plain};
 use race::Race;
 
 fn main() {
+    let words: Vec<String> = std::env::args().skip(1).collect();
+    match words.iter().map(String::as_str).collect::<Vec<_>>()[..] {
+        [] => race(),
+        ["one-step", rows, axis, pairs] => growth::one_step(&*ours(), rows, axis, pairs),
+        _ => panic!("usage: bench [one-step ROWS AXIS one|many]"),
+    }
+}
+
+fn race() {
     let race = Race { ours: ours(), plain: Box::new(Plain) };
     println!("each line takes about a tenth of a second");
     checks::run(&race);
-    #[cfg(feature = "step")]
     steps::run(&race);
-    #[cfg(feature = "edit")]
+    growth::run(&race);
     edits::run(&race);
 }
 

@@ -1,7 +1,6 @@
 //! Times two programs by turns, so that what else the machine does hits both.
 
 use crate::engine::{Engine, Seen};
-#[cfg(feature = "edit")]
 use crate::tables::Columns;
 use std::hint::black_box;
 use std::time::{Duration, Instant};
@@ -51,7 +50,6 @@ impl Race {
     }
 
     /// Times a call that changes the table; outside the timing the table is restored.
-    #[cfg(feature = "edit")]
     pub fn time_edit(
         &self,
         start: &Columns,

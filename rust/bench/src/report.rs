@@ -37,7 +37,6 @@ impl Group {
     }
 
     /// Prints the geometric mean and the worst ratio, and whether they keep within their bars.
-    #[cfg(any(feature = "step", feature = "edit"))]
     pub fn mean_and_worst(&self, mean_bar: f64, worst_bar: f64) {
         figure("geometric mean", self.geometric_mean(), mean_bar);
         figure("worst", self.ratios.iter().copied().fold(0.0, f64::max), worst_bar);

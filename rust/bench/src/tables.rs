@@ -49,7 +49,6 @@ fn sizes(level: &[usize]) -> Vec<usize> {
 
 /// A plant: turbines of 64 rows, each with three blades, each with twenty setpoints. Names are
 /// 1 for the plant, 2 for a turbine, 3 for a blade and 4 for a setpoint.
-#[cfg(any(feature = "step", feature = "edit"))]
 pub fn plant(rows: usize) -> Columns {
     let level = |row: usize| match row.checked_sub(1).map(|row| row % 64) {
         None => 0,
@@ -60,7 +59,6 @@ pub fn plant(rows: usize) -> Columns {
     from_levels((0..rows).map(level).collect())
 }
 
-#[cfg(feature = "edit")]
 impl Columns {
     /// Makes every column as it is in the other table, without a new allocation.
     pub fn restore(&mut self, other: &Columns) {

@@ -3,8 +3,8 @@
 use crate::case::{Call, Case, Columns};
 use crate::damage::spoil;
 use crate::judge::{Difference, Judge};
-use crate::progress::Progress;
 use crate::random::Random;
+use crate::series::{self, Series};
 use crate::tables::{add_spare_rows, lengthen, some_key, sound};
 
 /// How many calls on small tables the default run makes.
@@ -12,19 +12,12 @@ pub const CALLS: u64 = 300_000;
 
 /// Small tables, then tall ones about the deepest level, then large ones about the most rows.
 pub fn run(judge: &mut Judge<'_>, seed: u64, calls: u64) -> Result<(), Difference> {
-    let (tall, large) = (calls / 15, calls / 300);
-    let mut progress = Progress::new("check and find", calls + tall + large);
-    for (series, calls, case) in [
-        ("check small", calls, small as fn(&mut Random) -> Case),
-        ("check tall", tall, tall_case),
-        ("check large", large, large_case),
-    ] {
-        for call in 0..calls {
-            judge.pose(case(&mut Random::for_call(seed, series, call)))?;
-            progress.advance();
-        }
-    }
-    Ok(())
+    let all: [Series; 3] = [
+        ("check small", calls, small),
+        ("check tall", calls / 15, tall),
+        ("check large", calls / 300, large),
+    ];
+    series::run("check and find", seed, &all, |_, case| judge.pose(case).map(drop))
 }
 
 /// A table of 1 to 12 rows.
@@ -36,7 +29,7 @@ fn small(random: &mut Random) -> Case {
 }
 
 /// A table about 64 rows long that may go down to level 64 and more.
-fn tall_case(random: &mut Random) -> Case {
+fn tall(random: &mut Random) -> Case {
     let rows = random.within(62, 80);
     let deepest = random.pick(&[62, 63, 63, 63, 63, 64]);
     let mut table = sound(random, rows, deepest);
@@ -45,7 +38,7 @@ fn tall_case(random: &mut Random) -> Case {
 }
 
 /// A table of up to 4,096 rows, or 4,097.
-fn large_case(random: &mut Random) -> Case {
+fn large(random: &mut Random) -> Case {
     let rows = match random.below(4) {
         0 => 4_096,
         1 => random.pick(&[4_095, 4_097, 4_097]),

@@ -3,8 +3,8 @@
 use crate::case::{Call, Case, Columns, Insert};
 use crate::damage::spoil;
 use crate::judge::{Difference, Judge};
-use crate::progress::Progress;
 use crate::random::{scatter, Random};
+use crate::series::{self, Series};
 use crate::tables::{add_spare_rows, chain, lengthen, some_key, sound};
 
 /// How many edits of small tables the default run makes.
@@ -12,19 +12,12 @@ pub const CALLS: u64 = 400_000;
 
 /// Small tables, then tall ones about the deepest level, then large ones about the most rows.
 pub fn run(judge: &mut Judge<'_>, seed: u64, calls: u64) -> Result<(), Difference> {
-    let (tall, large) = (calls / 20, calls / 500);
-    let mut progress = Progress::new("edit", calls + tall + large);
-    for (series, calls, case) in [
-        ("edit small", calls, small as fn(&mut Random) -> Case),
-        ("edit tall", tall, tall_case),
-        ("edit large", large, large_case),
-    ] {
-        for call in 0..calls {
-            judge.pose(case(&mut Random::for_call(seed, series, call)))?;
-            progress.advance();
-        }
-    }
-    Ok(())
+    let all: [Series; 3] = [
+        ("edit small", calls, small),
+        ("edit tall", calls / 20, tall),
+        ("edit large", calls / 500, large),
+    ];
+    series::run("edit", seed, &all, |_, case| judge.pose(case).map(drop))
 }
 
 fn small(random: &mut Random) -> Case {
@@ -36,7 +29,7 @@ fn small(random: &mut Random) -> Case {
 }
 
 /// A table and a piece that come near the deepest level together.
-fn tall_case(random: &mut Random) -> Case {
+fn tall(random: &mut Random) -> Case {
     let rows = random.within(30, 70);
     let mut table = sound(random, rows, 63);
     add_spare_rows(random, &mut table, 70);
@@ -54,7 +47,7 @@ fn tall_case(random: &mut Random) -> Case {
 
 /// A table and a piece that come near the most rows together, with or without the columns for
 /// it.
-fn large_case(random: &mut Random) -> Case {
+fn large(random: &mut Random) -> Case {
     let piece_rows = random.pick(&[1, 2, 100, 500]);
     let rows = match random.below(6) {
         0 | 1 => 4_096 - piece_rows,

@@ -1,14 +1,10 @@
 //! The programs that answer calls.
 
 use crate::case::{Answer, Case};
-use crate::options::Part;
 
 /// A program that answers a call and changes what is lent to it.
 pub trait Engine {
     fn name(&self) -> &'static str;
-
-    /// Whether it has the functions that a part of the run calls.
-    fn has(&self, part: Part) -> bool;
 
     /// The answer; the columns of the case are left as the program leaves them.
     fn answer(&self, case: &mut Case) -> Answer;

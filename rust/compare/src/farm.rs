@@ -5,7 +5,6 @@ mod steps;
 
 use crate::case::{Answer, Call, Case, Columns};
 use crate::judge::{Difference, Judge};
-use crate::options::Part;
 use crate::tables::chain;
 
 /// The small farm.
@@ -19,16 +18,11 @@ pub fn farm() -> Columns {
     }
 }
 
-/// Poses every stated case that the engine has the functions for.
+/// Poses every stated case.
 pub fn run(judge: &mut Judge<'_>) -> Result<(), Difference> {
     checks(judge)?;
-    if judge.engine.has(Part::Step) {
-        steps::run(judge)?;
-    }
-    if judge.engine.has(Part::Edit) {
-        edits::run(judge)?;
-    }
-    Ok(())
+    steps::run(judge)?;
+    edits::run(judge)
 }
 
 /// The farm is sound, its keys are found, and level 63 is accepted, 64 refused.

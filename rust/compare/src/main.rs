@@ -17,6 +17,7 @@ mod notes;
 mod options;
 mod progress;
 mod random;
+mod series;
 mod steps;
 mod tables;
 mod tally;
@@ -64,13 +65,9 @@ fn compare(engine: &dyn Engine, options: &Options) -> Result<(), String> {
     println!("{} against the second program, seed {}", engine.name(), options.seed);
     let mut all = run_part(Part::Farm, engine, options.seed, 0)?;
     println!("the stated cases hold ({} calls)", all.calls());
-    let parts: Vec<_> =
-        PARTS.into_iter().filter(|&(part, ..)| options.chooses(part, engine)).collect();
+    let parts: Vec<_> = PARTS.into_iter().filter(|&(part, ..)| options.chooses(part)).collect();
     let planned: u64 = parts.iter().map(|(_, items, calls)| items * calls).sum();
     for (part, default, _) in parts {
-        if !engine.has(part) {
-            return Err("the library here doesn't have this part".to_string());
-        }
         let items = options.calls.map_or(default, |calls| (calls * default).div_ceil(planned));
         let tally = run_part(part, engine, options.seed, items)?;
         if options.calls.is_none() {

@@ -1,7 +1,5 @@
 //! What the command line asks for.
 
-use crate::engine::Engine;
-
 /// The parts of a run.
 #[derive(Clone, Copy, PartialEq, Eq)]
 pub enum Part {
@@ -47,12 +45,9 @@ impl Options {
 }
 
 impl Options {
-    /// Whether a part is asked for; without a choice, every part that the engine has.
-    pub fn chooses(&self, part: Part, engine: &dyn Engine) -> bool {
-        match self.only {
-            Some(only) => only == part,
-            None => engine.has(part),
-        }
+    /// Whether a part is asked for; without a choice, every part is.
+    pub fn chooses(&self, part: Part) -> bool {
+        self.only.is_none_or(|only| only == part)
     }
 }
 

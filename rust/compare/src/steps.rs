@@ -3,8 +3,8 @@
 use crate::case::{Call, Case, Columns, Step};
 use crate::damage::spoil;
 use crate::judge::{Difference, Judge};
-use crate::progress::Progress;
 use crate::random::Random;
+use crate::series::{self, Series};
 use crate::tables::{add_spare_rows, garbage, sound};
 
 /// How many calls on small tables the default run makes.
@@ -16,27 +16,20 @@ const MOST_ROOM: usize = 400_000;
 /// Small tables, then larger ones. Each step is posed twice, and the first answer says how much
 /// room the second time is exact, or too short by one.
 pub fn run(judge: &mut Judge<'_>, seed: u64, calls: u64) -> Result<(), Difference> {
-    let (small, middle, large) = (calls / 2, calls / 40, calls / 400);
-    let mut progress = Progress::new("step", small + middle + large);
-    for (series, steps, case) in [
-        ("step small", small, small_case as fn(&mut Random) -> Case),
-        ("step middle", middle, middle_case),
-        ("step large", large, large_case),
-    ] {
-        for call in 0..steps {
-            let random = &mut Random::for_call(seed, series, call);
-            let case = case(random);
-            let (answer, _) = judge.pose(case.clone())?;
-            let results = if answer.refusal == 8 { answer.place } else { answer.first };
-            judge.pose(with_room(random, case, results))?;
-            progress.advance();
-        }
-    }
-    Ok(())
+    let all: [Series; 3] = [
+        ("step small", calls / 2, small),
+        ("step middle", calls / 40, middle),
+        ("step large", calls / 400, large),
+    ];
+    series::run("step", seed, &all, |random, case| {
+        let (answer, _) = judge.pose(case.clone())?;
+        let results = if answer.refusal == 8 { answer.place } else { answer.first };
+        judge.pose(with_room(random, case, results)).map(drop)
+    })
 }
 
 /// A table of 1 to 12 rows with some pairs, now and then a long list of them.
-fn small_case(random: &mut Random) -> Case {
+fn small(random: &mut Random) -> Case {
     let rows = random.within(1, 12);
     let mut table = sound(random, rows, 12);
     add_spare_rows(random, &mut table, 3);
@@ -50,7 +43,7 @@ fn small_case(random: &mut Random) -> Case {
 }
 
 /// A table of up to 150 rows with up to as many pairs.
-fn middle_case(random: &mut Random) -> Case {
+fn middle(random: &mut Random) -> Case {
     let rows = random.within(13, 150);
     let deepest = random.pick(&[2, 5, 63]);
     let mut table = sound(random, rows, deepest);
@@ -61,7 +54,7 @@ fn middle_case(random: &mut Random) -> Case {
 }
 
 /// A table of up to 4,096 rows with up to 4,096 pairs of up to as many roles.
-fn large_case(random: &mut Random) -> Case {
+fn large(random: &mut Random) -> Case {
     let most = random.pick(&[300, 2_000, 4_096]);
     let rows = if random.chance(40) { most } else { random.within(13, most) };
     let deepest = random.pick(&[3, 8, 63]);

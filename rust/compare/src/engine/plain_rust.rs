@@ -2,7 +2,6 @@
 
 use super::Engine;
 use crate::case::{Answer, Call, Case};
-use crate::options::Part;
 use plain::{Pairs, Question, Results, Table, TableMut};
 
 pub struct Plain;
@@ -10,10 +9,6 @@ pub struct Plain;
 impl Engine for Plain {
     fn name(&self) -> &'static str {
         "plain"
-    }
-
-    fn has(&self, _: Part) -> bool {
-        true
     }
 
     fn answer(&self, case: &mut Case) -> Answer {

@@ -2,7 +2,6 @@
 
 use super::Engine;
 use crate::case::{Answer, Call, Case};
-use crate::options::Part;
 use second::{Pairs, Question, Results, Table, TableMut};
 
 pub struct Second;
@@ -10,10 +9,6 @@ pub struct Second;
 impl Engine for Second {
     fn name(&self) -> &'static str {
         "second"
-    }
-
-    fn has(&self, _: Part) -> bool {
-        true
     }
 
     fn answer(&self, case: &mut Case) -> Answer {
