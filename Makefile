@@ -2,6 +2,7 @@
 # make test:  the comparisons with the second program, then the whole proof from nothing.
 # make compare SEED=1 CALLS=1000000: the comparisons, for as long as asked.
 # make bench: the library beside plain Rust.
+# make library: proves the library and writes target/staticlib/libreach_c.a.
 .PHONY: reach test compare bench library
 
 SEED ?= 1
@@ -15,6 +16,7 @@ library:
 	tools/staticlib
 
 test: library
+	tools/first_calls
 	cd rust && cargo test --offline --release --workspace
 	cd rust && cargo run --offline --release -p compare
 	rt ci
