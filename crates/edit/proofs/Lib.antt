@@ -6,8 +6,3 @@ pub mod DeleteLaws
 pub mod PieceLaws
 pub mod InsertLaws
 pub mod LeavesLaws
-pub mod ActLaws
-pub mod FoundAgain
-pub mod TurnLaws
-pub mod Demand3
-pub mod FarmPair

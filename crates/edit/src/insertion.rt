@@ -13,9 +13,9 @@ use crate::moved;
 use crate::mover::open_column;
 use crate::mover::open_column_raised;
 use crate::sizes;
-use table::logic::either;
 use tree::Checked;
 use tree::Edited;
+use tree::logic::either;
 
 // Whether a piece would be refused by the check, or begins with a document.
 pub fn bad_piece(

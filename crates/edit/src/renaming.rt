@@ -6,9 +6,9 @@ ghost use Rattle.tree.specs.Table.{tableOf};
 ghost use Rattle.tree.specs.Sound.{hasName};
 ghost use Rattle.edit.specs.Leaves.{Leaves};
 ghost use Rattle.edit.specs.AtRow.{Known, renameAt};
-use table::logic::either;
 use tree::Done;
 use tree::Edited;
+use tree::logic::either;
 
 // Whether a row of this kind cannot get this name: it has none, or the name is 0.
 pub fn unfit(kind: usize, new_name: usize) -> bool

@@ -20,13 +20,13 @@ use Rattle.tree.specs.declared.Checked.the-variants.{Passed}
 use Rattle.tree.proofs.SearchLaws.{gather-zero, gather-suc}
 use Rattle.tree.proofs.SoundLaws.{sound-shape, next-passed, given-passed}
 use Rattle.tree.proofs.RoleLaws.{PairsFit, pair-passes}
-use Rattle.step.specs.Want.{wantedKind, fits}
-use Rattle.step.specs.Reach.{oneRole, Wrote}
-use Rattle.step.specs.RowSet.{Blank}
-use Rattle.step.specs.Role.{RoleAsk, RoleDone}
+use Rattle.axis.specs.Want.{wantedKind, fits}
+use Rattle.axis.specs.Reach.{oneRole, Wrote}
+use Rattle.axis.specs.RowSet.{Blank}
+use Rattle.axis.specs.Role.{RoleAsk, RoleDone}
 use Rattle.step.specs.Runs.{pairsFrom, part, RunEnd}
 use Rattle.step.specs.Steps.{Steps}
-use Rattle.step.proofs.WroteLaws.{wrote-length}
+use Rattle.axis.proofs.WroteLaws.{wrote-length}
 use Rattle.step.proofs.RunLaws.{roleRows, step-run, run-contexts}
 
 -- a search gathers no more than it looks at

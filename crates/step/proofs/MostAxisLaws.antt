@@ -20,10 +20,10 @@ use Rattle.tree.specs.Rules.{Shape}
 use Rattle.tree.proofs.TreeLaws.{parent-below}
 use Rattle.tree.proofs.SoundLaws.{either, shape-descendants}
 use Rattle.tree.proofs.LevelLaws.{ancestors-count}
-use Rattle.step.specs.Reach.{Parents}
+use Rattle.axis.specs.Reach.{Parents}
 use Rattle.step.specs.Most.{sumOf, onCount, spanOf, placeSpan, parentSpan, FewRows}
-use Rattle.step.proofs.HopLaws.{less?, child-within}
-use Rattle.step.proofs.SiblingLaws.{later-on, earlier-on}
+use Rattle.axis.proofs.HopLaws.{less?, child-within}
+use Rattle.axis.proofs.SiblingLaws.{later-on, earlier-on}
 use Rattle.step.proofs.GatherLaws.{gather-within, gather-either}
 use Rattle.step.proofs.SumLaws.{sum-less, sum-same}
 

@@ -10,8 +10,8 @@ use Rattle.tree.specs.Pairs.{pairsOf, rolesOf, rowsOf}
 use Rattle.tree.specs.Step.{Ask, stepList}
 use Rattle.tree.specs.Refusal.{pairCheck, askCheck}
 use Rattle.tree.specs.declared.Checked.the-variants.{Passed}
-use Rattle.step.specs.Reach.{Wrote, Parents}
-use Rattle.step.specs.Role.{climbsAxis}
+use Rattle.axis.specs.Reach.{Wrote, Parents}
+use Rattle.axis.specs.Role.{climbsAxis}
 
 abbrev pub askOf : ℕ → ℕ → ℕ → Ask
 askOf axis test name = record { axis = axis; test = test; name = name }

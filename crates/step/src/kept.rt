@@ -5,7 +5,7 @@ ghost use Prim.Native.Nat.{_<_};
 ghost use lib.Dec.{leb};
 ghost use lib.ListN.{length};
 ghost use Rattle.step.specs.KeptOf.{keptOf, KeptIn};
-use super::ranges::later;
+use tree::logic::greater;
 
 // 1 where row c does not lie before row pos, 0 where it does.
 fn past(pos: usize, c: usize) -> usize
@@ -26,7 +26,7 @@ fn kept_outermost(size: &[usize], level: &[usize], count: usize, rows: &[usize])
     while i < rows.len() {
         let c = rows[i];
         kept += past(pos, c);
-        pos = later(pos, c + size[c] + 1);
+        pos = greater(pos, c + size[c] + 1);
         i += 1;
     }
     kept

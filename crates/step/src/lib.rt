@@ -7,21 +7,15 @@ ghost use Rattle.step.specs.Leaves.{Leaves, Known};
 
 pub mod ask; // ask.rt: the axis code, the test code and its name
 pub mod checks; // checks.rt: refusals 1 to 7
-pub mod want; // want.rt: the node test as a wanted kind and a wanted name
-pub mod scan; // scan.rt: the rows of a range that fit
-pub mod ranges; // ranges.rt: the axes whose rows come out as ranges
-pub mod row_set; // row_set.rt: a set of rows
-mod walk; // walk.rt: from sibling to sibling, and from a row up to the root
-pub mod mark; // mark.rt: the axes whose rows are put into a set
 pub mod kept; // kept.rt: the kept count of one role
 pub mod most; // most.rt: an upper bound of the number of lines
-pub mod role; // role.rt: one role on any axis
 pub mod roles; // roles.rt: all roles
 pub mod room; // room.rt: whether the lines fit
 
-use table::logic::smaller;
+use axis::role::parents_for;
 use tree::Checked;
 use tree::Stepped;
+use tree::logic::smaller;
 
 // The step of a call that refusals 1 to 7 do not apply to: writes the lines to the front of the result columns and tells
 // their number and the kept count, or refuses with 8 and leaves the columns as they were.
@@ -49,7 +43,7 @@ pub fn step_known(
         r (now («out_role» .exit)) (now («out_row» .exit)) ⌝ }
 {
     let mut up = [0usize; 4096];
-    role::parents_for(axis, size, level, count, &mut up);
+    parents_for(axis, size, level, count, &mut up);
     let fitting = room::check_room(
         key,
         size,

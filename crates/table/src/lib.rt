@@ -6,7 +6,6 @@ ghost use lib.ListN.{length};
 ghost use Rattle.tree.specs.Table.{tableOf};
 ghost use Rattle.tree.specs.Outcome.{checkOutcome, findOutcome, located};
 
-pub mod logic; // logic.rt: the smaller of two numbers; tests joined
 pub mod rows; // rows.rt: the rules of a row, and the least row that breaks one
 pub mod pass; // pass.rt: all rows in one pass
 pub mod pairs; // pairs.rt: the pairs of role and row

@@ -7,9 +7,9 @@ ghost use Rattle.tree.specs.Table.{tableOf};
 ghost use Rattle.tree.specs.Rules.{InUse};
 ghost use Rattle.table.specs.First.{firstRest};
 ghost use Rattle.table.specs.Open.{rowFits, rootFits, EndAt};
-use crate::logic::both;
 use crate::rows::kind_ok;
 use crate::rows::name_ok;
+use tree::logic::both;
 
 // Whether a later row keeps the rules of level, kind and name after a row of level top, with a size that is no more
 // than a table has rows. Most rows are elements, so they come first.

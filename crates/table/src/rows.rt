@@ -6,9 +6,9 @@ ghost use Rattle.tree.specs.Table.{tableOf, shortest, countOk};
 ghost use Rattle.tree.specs.Sound.{levelOk, runOf, sizeOk, kindOk, nameOk, restOk, firstBad};
 ghost use Rattle.tree.specs.Rules.{InUse};
 ghost use Rattle.table.specs.First.{firstRest};
-use crate::logic::both;
-use crate::logic::either;
-use crate::logic::smaller;
+use tree::logic::both;
+use tree::logic::either;
+use tree::logic::smaller;
 
 // The length of the shortest column.
 pub fn shortest(

@@ -47,20 +47,20 @@ add-kept c =
     let s = l .before in
     omega (arith, outer-turn (head s .pre) (s .loop .inv) (l .loop-test .taken) (c .past .ensures) refl .few)
 
-mul-later : tie.Need-mul-later Inv-loop μ-loop
-mul-later c = omega (arith, inside (c .before .before))
+mul-greater : tie.Need-mul-greater Inv-loop μ-loop
+mul-greater c = omega (arith, inside (c .before .before))
 
-shared-slice-read-later : tie.Need-shared-slice-read-later Inv-loop μ-loop
-shared-slice-read-later c = omega (arith, inside (c .before .before .before))
+shared-slice-read-greater : tie.Need-shared-slice-read-greater Inv-loop μ-loop
+shared-slice-read-greater c = omega (arith, inside (c .before .before .before))
 
-add-later : tie.Need-add-later Inv-loop μ-loop
-add-later c = omega (arith, inside (c .before .before .before))
+add-greater : tie.Need-add-greater Inv-loop μ-loop
+add-greater c = omega (arith, inside (c .before .before .before))
 
-add-later-2 : tie.Need-add-later-2 Inv-loop μ-loop
-add-later-2 c = omega (arith, inside (c .before .before .before))
+add-greater-2 : tie.Need-add-greater-2 Inv-loop μ-loop
+add-greater-2 c = omega (arith, inside (c .before .before .before))
 
-later-requires : tie.Need-later-requires Inv-loop μ-loop
-later-requires c κs = search needs
+greater-requires : tie.Need-greater-requires Inv-loop μ-loop
+greater-requires c κs = search needs
 
 add-i : tie.Need-add-i Inv-loop μ-loop
 add-i c = search needs
@@ -73,7 +73,7 @@ loop-again c =
     let t = c .before .before in
     let l = t .before .before in
     let s = l .before in
-    outer-turn (head s .pre) (s .loop .inv) (l .loop-test .taken) (t .past .ensures) (c .later .ensures)
+    outer-turn (head s .pre) (s .loop .inv) (l .loop-test .taken) (t .past .ensures) (c .greater .ensures)
 
 returns : tie.Need-returns Inv-loop μ-loop
 returns c = outer-done (head (c .before) .pre) (c .before .loop .inv) (c .loop-test .left)
@@ -89,11 +89,11 @@ kept-outermost-spec =
     shared-slice-read-c
     past-requires
     add-kept
-    mul-later
-    shared-slice-read-later
-    add-later
-    add-later-2
-    later-requires
+    mul-greater
+    shared-slice-read-greater
+    add-greater
+    add-greater-2
+    greater-requires
     add-i
     loop-less
     loop-again

@@ -1,0 +1,6 @@
+pub mod Want
+pub mod Reach
+pub mod Range
+pub mod RowSet
+pub mod Mark
+pub mod Role

@@ -1,0 +1,36 @@
+-- What the step of one role asks for and leaves, on any axis. Assumes nothing.
+use mathlib.Core.Path.{_≡_}
+use mathlib.Core.Bool.{Bool, true, _||_}
+use mathlib.Core.List.{List}
+use Prim.Native.Nat.{ℕ}
+use lib.Dec.{eqb}
+use Rattle.tree.specs.Axis.{axisOk}
+use Rattle.axis.specs.Reach.{oneRole, RoleIn, Wrote, Parents}
+use Rattle.axis.specs.Want.{fits}
+use Rattle.axis.specs.RowSet.{Blank}
+
+-- the axes whose rows come out as ranges
+unfoldable pub rangedAxis : ℕ → Bool
+rangedAxis axis = eqb axis 1 || (eqb axis 3 || (eqb axis 4 || (eqb axis 8 || eqb axis 9)))
+
+-- the axes whose rows are put into a set first
+unfoldable pub markedAxis : ℕ → Bool
+markedAxis axis = eqb axis 2 || (eqb axis 5 || (eqb axis 6 || (eqb axis 7 || (eqb axis 10 || eqb axis 11))))
+
+-- the axes that follow parents
+unfoldable pub climbsAxis : ℕ → Bool
+climbsAxis axis = eqb axis 5 || (eqb axis 6 || (eqb axis 7 || (eqb axis 10 || eqb axis 11)))
+
+-- an axis, a tree, its parents where the axis follows them, contexts, an empty set and room for the rows
+pub record RoleAsk (axis : ℕ) (size level kind name up : List ℕ) (n wantKind wantName : ℕ) (cs words out : List ℕ)
+    : Type 0 where
+  pub known : axisOk axis ≡ true
+  pub asks : RoleIn axis size level kind name n wantKind wantName cs out
+  pub parents : climbsAxis axis ≡ true → Parents level n up
+  pub blank : Blank words
+
+-- the rows in front of out, and the set empty again
+pub record RoleDone (axis : ℕ) (level kind name : List ℕ) (n wantKind wantName : ℕ) (cs words old : List ℕ) (r : ℕ)
+    (new : List ℕ) : Type 0 where
+  pub wrote : Wrote (oneRole axis level n (fits wantKind wantName kind name) cs) old r new
+  pub blank : Blank words

@@ -1,0 +1,294 @@
+// The rows on an axis of one role's contexts, as a set of rows: the axes whose rows do not come out in order. The
+// cost is that of the contexts and of the rows that go in, each once: no walk goes on over rows that are in the set
+// already.
+use super::row_set;
+use super::walk::climb;
+use super::walk::hop;
+ghost use Prim.Native.Nat.{_+_};
+ghost use lib.ListN.{take, drop};
+ghost use Rattle.tree.specs.Rules.{Shape};
+ghost use Rattle.axis.specs.Reach.{Parents};
+ghost use Rattle.axis.specs.RowSet.{Marks, Marked};
+ghost use Rattle.axis.specs.Mark.{Turn};
+
+// Leaves in `up`, for each row in use, one more than its parent, 0 at row 0. The path has, by level, the rows still
+// open.
+pub fn parents(size: &[usize], level: &[usize], count: usize, up: &mut [usize; 4096])
+    requires { ⌜ Shape (now size) (now level) count ⌝ }
+    ensures { λ _. ⌜ Parents (now (level .entry)) count (now (up .exit)) ⌝ }
+{
+    let all = &mut up[..];
+    let mut path: [usize; 64] = [0; 64];
+    all[0] = 0;
+    let mut i: usize = 1;
+    while i < count {
+        let l = level[i];
+        all[i] = path[l - 1] + 1;
+        path[l] = i;
+        i = i + 1;
+    }
+}
+
+// Marks the children of the context at place i.
+fn children_of(
+    size: &[usize],
+    level: &[usize],
+    count: usize,
+    rows: &[usize],
+    i: usize,
+    words: &mut [u64; 64],
+    used: u64,
+) -> u64
+    requires { ⌜ Turn 2 (now size) (now level) count (now rows) i (take i (now rows)) (now words) used ⌝ }
+    ensures { λ r. ⌜ Marked 2 (now (level .entry)) count (take (i + 1) (now (rows .entry))) (now (words .exit)) r ⌝ }
+{
+    let c = rows[i];
+    hop(size, level, count, c, c + 1, c + size[c] + 1, words, used)
+}
+
+// Marks the parent of the context at place i, if it has one.
+fn parent_of(
+    size: &[usize],
+    level: &[usize],
+    up: &[usize; 4096],
+    count: usize,
+    rows: &[usize],
+    i: usize,
+    words: &mut [u64; 64],
+    used: u64,
+) -> u64
+    requires { ⌜ Turn 5 (now size) (now level) count (now rows) i (take i (now rows)) (now words) used ⌝ }
+    requires { ⌜ Parents (now level) count (now up) ⌝ }
+    ensures { λ r. ⌜ Marked 5 (now (level .entry)) count (take (i + 1) (now (rows .entry))) (now (words .exit)) r ⌝ }
+{
+    let c = rows[i];
+    let q = up[c];
+    if q == 0 {
+        return used;
+    }
+    row_set::add(words, used, q - 1)
+}
+
+// Marks the ancestors of the context at place i.
+fn ancestors_of(
+    size: &[usize],
+    level: &[usize],
+    up: &[usize; 4096],
+    count: usize,
+    rows: &[usize],
+    i: usize,
+    words: &mut [u64; 64],
+    used: u64,
+) -> u64
+    requires { ⌜ Turn 6 (now size) (now level) count (now rows) i (take i (now rows)) (now words) used ⌝ }
+    requires { ⌜ Parents (now level) count (now up) ⌝ }
+    ensures { λ r. ⌜ Marked 6 (now (level .entry)) count (take (i + 1) (now (rows .entry))) (now (words .exit)) r ⌝ }
+{
+    let c = rows[i];
+    climb(size, level, up, count, up[c], words, used)
+}
+
+// Marks the context at place i and its ancestors.
+fn self_and_ancestors_of(
+    size: &[usize],
+    level: &[usize],
+    up: &[usize; 4096],
+    count: usize,
+    rows: &[usize],
+    i: usize,
+    words: &mut [u64; 64],
+    used: u64,
+) -> u64
+    requires { ⌜ Turn 7 (now size) (now level) count (now rows) i (take i (now rows)) (now words) used ⌝ }
+    requires { ⌜ Parents (now level) count (now up) ⌝ }
+    ensures { λ r. ⌜ Marked 7 (now (level .entry)) count (take (i + 1) (now (rows .entry))) (now (words .exit)) r ⌝ }
+{
+    climb(size, level, up, count, rows[i] + 1, words, used)
+}
+
+// Marks the later siblings of the context at place i.
+fn later_siblings_of(
+    size: &[usize],
+    level: &[usize],
+    up: &[usize; 4096],
+    count: usize,
+    rows: &[usize],
+    i: usize,
+    words: &mut [u64; 64],
+    used: u64,
+) -> u64
+    requires { ⌜ Turn 10 (now size) (now level) count (now rows) i (take i (now rows)) (now words) used ⌝ }
+    requires { ⌜ Parents (now level) count (now up) ⌝ }
+    ensures { λ r. ⌜ Marked 10 (now (level .entry)) count (take (i + 1) (now (rows .entry))) (now (words .exit)) r ⌝ }
+{
+    let c = rows[i];
+    let q = up[c];
+    if q == 0 {
+        return used;
+    }
+    let p = q - 1;
+    hop(
+        size,
+        level,
+        count,
+        p,
+        c + size[c] + 1,
+        p + size[p] + 1,
+        words,
+        used,
+    )
+}
+
+// Marks the earlier siblings of the context at place i; the contexts after it are marked.
+fn earlier_siblings_of(
+    size: &[usize],
+    level: &[usize],
+    up: &[usize; 4096],
+    count: usize,
+    rows: &[usize],
+    i: usize,
+    words: &mut [u64; 64],
+    used: u64,
+) -> u64
+    requires { ⌜ Turn 11 (now size) (now level) count (now rows) i (drop (i + 1) (now rows)) (now words) used ⌝ }
+    requires { ⌜ Parents (now level) count (now up) ⌝ }
+    ensures { λ r. ⌜ Marked 11 (now (level .entry)) count (drop i (now (rows .entry))) (now (words .exit)) r ⌝ }
+{
+    let c = rows[i];
+    let q = up[c];
+    if q == 0 {
+        return used;
+    }
+    let p = q - 1;
+    hop(size, level, count, p, p + 1, c, words, used)
+}
+
+// Axis 2: the children of the contexts.
+pub fn mark_children(
+    size: &[usize],
+    level: &[usize],
+    count: usize,
+    rows: &[usize],
+    words: &mut [u64; 64],
+) -> u64
+    requires { ⌜ Marks (now size) (now level) count (now rows) (now words) ⌝ }
+    ensures { λ r. ⌜ Marked 2 (now (level .entry)) count (now (rows .entry)) (now (words .exit)) r ⌝ }
+{
+    let mut used: u64 = 0;
+    let mut i: usize = 0;
+    while i < rows.len() {
+        used = children_of(size, level, count, rows, i, words, used);
+        i = i + 1;
+    }
+    used
+}
+
+// Axis 5: the parents of the contexts.
+pub fn mark_parents(
+    size: &[usize],
+    level: &[usize],
+    up: &[usize; 4096],
+    count: usize,
+    rows: &[usize],
+    words: &mut [u64; 64],
+) -> u64
+    requires { ⌜ Marks (now size) (now level) count (now rows) (now words) ⌝ }
+    requires { ⌜ Parents (now level) count (now up) ⌝ }
+    ensures { λ r. ⌜ Marked 5 (now (level .entry)) count (now (rows .entry)) (now (words .exit)) r ⌝ }
+{
+    let mut used: u64 = 0;
+    let mut i: usize = 0;
+    while i < rows.len() {
+        used = parent_of(size, level, up, count, rows, i, words, used);
+        i = i + 1;
+    }
+    used
+}
+
+// Axis 6: the ancestors of the contexts.
+pub fn mark_ancestors(
+    size: &[usize],
+    level: &[usize],
+    up: &[usize; 4096],
+    count: usize,
+    rows: &[usize],
+    words: &mut [u64; 64],
+) -> u64
+    requires { ⌜ Marks (now size) (now level) count (now rows) (now words) ⌝ }
+    requires { ⌜ Parents (now level) count (now up) ⌝ }
+    ensures { λ r. ⌜ Marked 6 (now (level .entry)) count (now (rows .entry)) (now (words .exit)) r ⌝ }
+{
+    let mut used: u64 = 0;
+    let mut i: usize = 0;
+    while i < rows.len() {
+        used = ancestors_of(size, level, up, count, rows, i, words, used);
+        i = i + 1;
+    }
+    used
+}
+
+// Axis 7: the contexts and their ancestors.
+pub fn mark_self_and_ancestors(
+    size: &[usize],
+    level: &[usize],
+    up: &[usize; 4096],
+    count: usize,
+    rows: &[usize],
+    words: &mut [u64; 64],
+) -> u64
+    requires { ⌜ Marks (now size) (now level) count (now rows) (now words) ⌝ }
+    requires { ⌜ Parents (now level) count (now up) ⌝ }
+    ensures { λ r. ⌜ Marked 7 (now (level .entry)) count (now (rows .entry)) (now (words .exit)) r ⌝ }
+{
+    let mut used: u64 = 0;
+    let mut i: usize = 0;
+    while i < rows.len() {
+        used = self_and_ancestors_of(size, level, up, count, rows, i, words, used);
+        i = i + 1;
+    }
+    used
+}
+
+// Axis 10: the later siblings of the contexts.
+pub fn mark_later_siblings(
+    size: &[usize],
+    level: &[usize],
+    up: &[usize; 4096],
+    count: usize,
+    rows: &[usize],
+    words: &mut [u64; 64],
+) -> u64
+    requires { ⌜ Marks (now size) (now level) count (now rows) (now words) ⌝ }
+    requires { ⌜ Parents (now level) count (now up) ⌝ }
+    ensures { λ r. ⌜ Marked 10 (now (level .entry)) count (now (rows .entry)) (now (words .exit)) r ⌝ }
+{
+    let mut used: u64 = 0;
+    let mut i: usize = 0;
+    while i < rows.len() {
+        used = later_siblings_of(size, level, up, count, rows, i, words, used);
+        i = i + 1;
+    }
+    used
+}
+
+// Axis 11: the earlier siblings of the contexts, from the last context to the first.
+pub fn mark_earlier_siblings(
+    size: &[usize],
+    level: &[usize],
+    up: &[usize; 4096],
+    count: usize,
+    rows: &[usize],
+    words: &mut [u64; 64],
+) -> u64
+    requires { ⌜ Marks (now size) (now level) count (now rows) (now words) ⌝ }
+    requires { ⌜ Parents (now level) count (now up) ⌝ }
+    ensures { λ r. ⌜ Marked 11 (now (level .entry)) count (now (rows .entry)) (now (words .exit)) r ⌝ }
+{
+    let mut used: u64 = 0;
+    let mut i = rows.len();
+    while 0 < i {
+        i = i - 1;
+        used = earlier_siblings_of(size, level, up, count, rows, i, words, used);
+    }
+    used
+}

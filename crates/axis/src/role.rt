@@ -1,0 +1,194 @@
+// One role: the rows that its contexts reach on an axis, each arm one axis of the definition.
+ghost use mathlib.Core.Path.{_≡_};
+ghost use mathlib.Core.Bool.{true};
+ghost use Rattle.tree.specs.Rules.{Shape};
+ghost use Rattle.axis.specs.Reach.{oneRole, RoleIn, Wrote, Parents};
+ghost use Rattle.axis.specs.Want.{fits};
+ghost use Rattle.axis.specs.RowSet.{Marks, Marked};
+ghost use Rattle.axis.specs.Role.{rangedAxis, markedAxis, climbsAxis, RoleAsk, RoleDone};
+use super::mark;
+use super::ranges;
+use super::row_set;
+use tree::logic::either;
+
+// Whether the rows of the axis come out as ranges.
+fn is_ranged(axis: usize) -> bool
+    ensures { λ r. ⌜ r ≡ rangedAxis axis ⌝ }
+{
+    either(
+        axis == 1,
+        either(axis == 3, either(axis == 4, either(axis == 8, axis == 9))),
+    )
+}
+
+// The axes whose rows come out as ranges: writes the rows to the front of out, answers how many.
+fn ranged(
+    axis: usize,
+    level: &[usize],
+    size: &[usize],
+    kind: &[usize],
+    name: &[usize],
+    count: usize,
+    rows: &[usize],
+    want_kind: usize,
+    want_name: usize,
+    out: &mut [usize],
+) -> usize
+    requires { ⌜ rangedAxis axis ≡ true ⌝ }
+    requires { ⌜ RoleIn axis (now size) (now level) (now kind) (now name) count
+        «want_kind» «want_name» (now rows) (now out) ⌝ }
+    ensures { λ r. ⌜ Wrote
+        (oneRole axis (now (level .entry)) count
+        (fits «want_kind» «want_name» (now (kind .entry)) (now (name .entry))) (now (rows .entry)))
+        (now (out .entry)) r (now (out .exit)) ⌝ }
+{
+    match axis {
+        1 => ranges::own_rows(
+            level,
+            size,
+            kind,
+            name,
+            count,
+            rows,
+            want_kind,
+            want_name,
+            out,
+        ),
+        3 => ranges::rows_below(
+            1,
+            level,
+            size,
+            kind,
+            name,
+            count,
+            rows,
+            want_kind,
+            want_name,
+            out,
+        ),
+        4 => ranges::rows_below(
+            0,
+            level,
+            size,
+            kind,
+            name,
+            count,
+            rows,
+            want_kind,
+            want_name,
+            out,
+        ),
+        8 => ranges::rows_after(
+            level,
+            size,
+            kind,
+            name,
+            count,
+            rows,
+            want_kind,
+            want_name,
+            out,
+        ),
+        _ => ranges::rows_before(
+            level,
+            size,
+            kind,
+            name,
+            count,
+            rows,
+            want_kind,
+            want_name,
+            out,
+        ),
+    }
+}
+
+// The other axes: puts the rows into the set, answers which of its words are used.
+fn marked(
+    axis: usize,
+    size: &[usize],
+    level: &[usize],
+    up: &[usize; 4096],
+    count: usize,
+    rows: &[usize],
+    words: &mut [u64; 64],
+) -> u64
+    requires { ⌜ markedAxis axis ≡ true ⌝ }
+    requires { ⌜ Marks (now size) (now level) count (now rows) (now words) ⌝ }
+    requires { ⌜ (climbsAxis axis ≡ true → Parents (now level) count (now up)) ⌝ }
+    ensures { λ r. ⌜ Marked axis (now (level .entry)) count (now (rows .entry)) (now (words .exit)) r ⌝ }
+{
+    match axis {
+        2 => mark::mark_children(size, level, count, rows, words),
+        5 => mark::mark_parents(size, level, up, count, rows, words),
+        6 => mark::mark_ancestors(size, level, up, count, rows, words),
+        7 => mark::mark_self_and_ancestors(size, level, up, count, rows, words),
+        10 => mark::mark_later_siblings(size, level, up, count, rows, words),
+        _ => mark::mark_earlier_siblings(size, level, up, count, rows, words),
+    }
+}
+
+// Whether the axis follows parents.
+fn climbs(axis: usize) -> bool
+    ensures { λ r. ⌜ r ≡ climbsAxis axis ⌝ }
+{
+    either(
+        axis == 5,
+        either(axis == 6, either(axis == 7, either(axis == 10, axis == 11))),
+    )
+}
+
+// Leaves the parents of all rows in up where the axis follows them.
+pub fn parents_for(
+    axis: usize,
+    size: &[usize],
+    level: &[usize],
+    count: usize,
+    up: &mut [usize; 4096],
+)
+    requires { ⌜ Shape (now size) (now level) count ⌝ }
+    ensures { λ _. ⌜ (climbsAxis axis ≡ true → Parents (now (level .entry)) count (now (up .exit))) ⌝ }
+{
+    if climbs(axis) {
+        mark::parents(size, level, count, up);
+    }
+}
+
+// The rows that one role reaches, written to the front of out; answers how many. The set is empty before and after.
+pub fn one_role(
+    axis: usize,
+    size: &[usize],
+    level: &[usize],
+    kind: &[usize],
+    name: &[usize],
+    up: &[usize; 4096],
+    count: usize,
+    rows: &[usize],
+    want_kind: usize,
+    want_name: usize,
+    words: &mut [u64; 64],
+    out: &mut [usize],
+) -> usize
+    requires { ⌜ RoleAsk axis (now size) (now level) (now kind) (now name) (now up) count
+        «want_kind» «want_name» (now rows) (now words) (now out) ⌝ }
+    ensures { λ r. ⌜ RoleDone axis (now (level .entry)) (now (kind .entry)) (now (name .entry)) count
+        «want_kind» «want_name» (now (rows .entry)) (now (words .exit))
+        (now (out .entry)) r (now (out .exit)) ⌝ }
+{
+    if is_ranged(axis) {
+        return ranged(
+            axis,
+            level,
+            size,
+            kind,
+            name,
+            count,
+            rows,
+            want_kind,
+            want_name,
+            out,
+        );
+    }
+    let used = marked(axis, size, level, up, count, rows, words);
+    row_set::drain(kind, name, count, want_kind, want_name, words, used, out)
+}

@@ -1,0 +1,5 @@
+pub mod ActLaws
+pub mod FoundAgain
+pub mod TurnLaws
+pub mod Demand3
+pub mod FarmPair

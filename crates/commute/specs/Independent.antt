@@ -1,0 +1,38 @@
+-- Demand 3: when two edits of one table may be done in either order, and what is the same afterwards.
+-- The theorem is `demand-three` (proofs/Demand3.antt). Assumes nothing.
+use Prim.Native.Nat.{ℕ, _+_, _≤_, _<_}
+use mathlib.Core.Path.{_≡_}
+use mathlib.Core.Bool.{false}
+use lib.ListN.{take}
+use Rattle.tree.specs.Table.{Table, at, shortest}
+use Rattle.tree.specs.Tree.{ancestor}
+use Rattle.tree.specs.Outcome.{EditOutcome}
+use Rattle.commute.specs.Act.{Act, outcome, Accepted, rowNamed, brings, newKeys}
+
+-- the conditions of demand 3 on the edits a and b of the table t
+pub record Independent (a b : Act) (t : Table) : Type 0 where
+  -- each is accepted on the same starting table
+  pub accepted-a : Accepted (outcome a t)
+  pub accepted-b : Accepted (outcome b t)
+  -- the named rows differ, and neither is an ancestor of the other
+  pub rows-differ : rowNamed a t ≡ rowNamed b t → ⊥
+  pub a-not-above : ancestor (t .level) (rowNamed a t) (rowNamed b t) ≡ false
+  pub b-not-above : ancestor (t .level) (rowNamed b t) (rowNamed a t) ≡ false
+  -- no key is in both pieces
+  pub keys-differ : (i j : ℕ) → i < brings a → j < brings b → at (newKeys a) i ≡ at (newKeys b) j → ⊥
+  -- the limit and the shortest column have room for both
+  pub in-limit : t .count + brings a + brings b ≤ 4096
+  pub in-columns : t .count + brings a + brings b ≤ shortest t
+
+-- the two in turn: the outcome of b on the table that a leaves
+abbrev pub inTurn : Act → Act → Table → EditOutcome
+inTurn a b t = outcome b (outcome a t .table)
+
+-- the rows in use are the same in all five columns
+pub record SameRows (t u : Table) : Type 0 where
+  pub count : t .count ≡ u .count
+  pub key : take (t .count) (t .key) ≡ take (u .count) (u .key)
+  pub size : take (t .count) (t .size) ≡ take (u .count) (u .size)
+  pub level : take (t .count) (t .level) ≡ take (u .count) (u .level)
+  pub kind : take (t .count) (t .kind) ≡ take (u .count) (u .kind)
+  pub name : take (t .count) (t .name) ≡ take (u .count) (u .name)
