@@ -13,7 +13,7 @@ ghost use Rattle.axis.specs.Mark.{Turn};
 
 // Leaves in `up`, for each row in use, one more than its parent, 0 at row 0. The path has, by level, the rows still
 // open.
-pub fn parents(size: &[usize], level: &[usize], count: usize, up: &mut [usize; 4096])
+pub(crate) fn parents(size: &[usize], level: &[usize], count: usize, up: &mut [usize; 4096])
     requires { ⌜ Shape (now size) (now level) count ⌝ }
     ensures { λ _. ⌜ Parents (now (level .entry)) count (now (up .exit)) ⌝ }
 {
@@ -164,7 +164,7 @@ fn earlier_siblings_of(
 }
 
 // Axis 2: the children of the contexts.
-pub fn mark_children(
+pub(crate) fn mark_children(
     size: &[usize],
     level: &[usize],
     count: usize,
@@ -184,7 +184,7 @@ pub fn mark_children(
 }
 
 // Axis 5: the parents of the contexts.
-pub fn mark_parents(
+pub(crate) fn mark_parents(
     size: &[usize],
     level: &[usize],
     up: &[usize; 4096],
@@ -206,7 +206,7 @@ pub fn mark_parents(
 }
 
 // Axis 6: the ancestors of the contexts.
-pub fn mark_ancestors(
+pub(crate) fn mark_ancestors(
     size: &[usize],
     level: &[usize],
     up: &[usize; 4096],
@@ -228,7 +228,7 @@ pub fn mark_ancestors(
 }
 
 // Axis 7: the contexts and their ancestors.
-pub fn mark_self_and_ancestors(
+pub(crate) fn mark_self_and_ancestors(
     size: &[usize],
     level: &[usize],
     up: &[usize; 4096],
@@ -250,7 +250,7 @@ pub fn mark_self_and_ancestors(
 }
 
 // Axis 10: the later siblings of the contexts.
-pub fn mark_later_siblings(
+pub(crate) fn mark_later_siblings(
     size: &[usize],
     level: &[usize],
     up: &[usize; 4096],
@@ -272,7 +272,7 @@ pub fn mark_later_siblings(
 }
 
 // Axis 11: the earlier siblings of the contexts, from the last context to the first.
-pub fn mark_earlier_siblings(
+pub(crate) fn mark_earlier_siblings(
     size: &[usize],
     level: &[usize],
     up: &[usize; 4096],

@@ -11,7 +11,7 @@ use super::scan::emit_one;
 use tree::logic::greater;
 
 // Axis 1: writes the contexts of one role that fit, each once, to the front of `out`; answers how many.
-pub fn own_rows(
+pub(crate) fn own_rows(
     level: &[usize],
     size: &[usize],
     kind: &[usize],
@@ -45,7 +45,7 @@ pub fn own_rows(
 
 // Axis 3, where `first` is 1: writes the descendants of the contexts of one role that fit, each once, to the front of
 // `out`; answers how many. Axis 4, where `first` is 0: the same with the contexts themselves.
-pub fn rows_below(
+pub(crate) fn rows_below(
     first: usize,
     level: &[usize],
     size: &[usize],
@@ -102,7 +102,7 @@ fn first_after(size: &[usize], count: usize, rows: &[usize]) -> usize
 
 // Axis 8: writes the rows that come after a context of one role and its descendants and fit to the front of `out`;
 // answers how many.
-pub fn rows_after(
+pub(crate) fn rows_after(
     level: &[usize],
     size: &[usize],
     kind: &[usize],
@@ -153,7 +153,7 @@ fn next_open(size: &[usize], count: usize, w: usize, c: usize) -> usize
 
 // Axis 9: writes the rows that come before a context of one role, are not its ancestors and fit to the front of `out`;
 // answers how many. Between two ancestors of the last context they are one range.
-pub fn rows_before(
+pub(crate) fn rows_before(
     level: &[usize],
     size: &[usize],
     kind: &[usize],

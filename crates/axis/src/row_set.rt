@@ -9,7 +9,7 @@ ghost use Rattle.axis.specs.RowSet.{has, RowSet, Added, inWord, wordFits
 ghost use Rattle.axis.specs.Mark.{Joined};
 
 // Whether row x is in the set.
-pub fn holds(words: &[u64; 64], x: usize) -> bool
+pub(crate) fn holds(words: &[u64; 64], x: usize) -> bool
     requires { ⌜ x < 4096 ⌝ }
     ensures { λ r. ⌜ r ≡ has (now (words .entry)) x ⌝ }
 {
@@ -17,7 +17,7 @@ pub fn holds(words: &[u64; 64], x: usize) -> bool
 }
 
 // Puts row x into the set; answers the new `used`.
-pub fn add(words: &mut [u64; 64], used: u64, x: usize) -> u64
+pub(crate) fn add(words: &mut [u64; 64], used: u64, x: usize) -> u64
     requires { ⌜ (x < 4096) × RowSet (now words) used ⌝ }
     ensures { λ r. ⌜ Added (now (words .entry)) x (now (words .exit)) r ⌝ }
 {
@@ -35,7 +35,7 @@ fn add_row(words: &mut [u64], used: u64, x: usize) -> u64
 }
 
 // Puts rows of word j into the set, those whose bits are set, at least one; answers the new `used`.
-pub fn add_bits(words: &mut [u64; 64], used: u64, j: usize, bits: u64) -> u64
+pub(crate) fn add_bits(words: &mut [u64; 64], used: u64, j: usize, bits: u64) -> u64
     requires { ⌜ (j < 64) × RowSet (now words) used × (bits ≡ 0 → ⊥) ⌝ }
     ensures { λ r. ⌜ Joined (inWord (64 * j) bits) (now (words .entry)) (now (words .exit)) r ⌝ }
 {
@@ -53,7 +53,7 @@ fn add_word(words: &mut [u64], used: u64, j: usize, bits: u64) -> u64
 
 // Takes all rows out of the set and writes those that fit, ascending, to the front of out; answers how many.
 // The set is blank afterwards.
-pub fn drain(
+pub(crate) fn drain(
     kind: &[usize],
     name: &[usize],
     count: usize,

@@ -81,7 +81,7 @@ fn scan_named(
 
 // Appends the rows from `from` on, and before `to`, that fit; answers the place after them. What is wanted decides
 // before the scan which columns it reads.
-pub fn emit(
+pub(crate) fn emit(
     kind: &[usize],
     name: &[usize],
     from: usize,
@@ -114,7 +114,7 @@ pub fn emit(
 }
 
 // Appends the one row of a range, if there is one and it fits; answers the place after it.
-pub fn emit_one(
+pub(crate) fn emit_one(
     kind: &[usize],
     name: &[usize],
     from: usize,

@@ -12,7 +12,7 @@ struct Spot {
 
 // Puts the children of row p from row `from` on and before row `end` into the set. Where the first is in already,
 // all are.
-pub fn hop(
+pub(crate) fn hop(
     size: &[usize],
     level: &[usize],
     count: usize,
@@ -111,7 +111,7 @@ fn past_leaves(
 
 // Puts the row that `place` names, one more than the row, 0 for none, and its ancestors into the set. Where one is
 // in already, so are those above it.
-pub fn climb(
+pub(crate) fn climb(
     size: &[usize],
     level: &[usize],
     up: &[usize; 4096],

@@ -5,7 +5,7 @@ ghost use lib.ListN.{length};
 ghost use Rattle.axis.specs.Want.{wantedKind, fits};
 
 // Whether row w has the wanted kind and the wanted name.
-pub fn fits_row(
+pub(crate) fn fits_row(
     kind: &[usize],
     name: &[usize],
     want_kind: usize,

@@ -1,5 +1,5 @@
--- Two answers that the contract of an edit allows are equal: `insert-only`, `delete-only`, `rename-only`.
--- Assumes nothing.
+-- Two answers that the contract of an edit allows are equal, and so are the columns that they leave: `leaves-only` for
+-- the edits at a known row, then `insert-only`, `delete-only`, `rename-only`. Assumes nothing.
 use mathlib.Core.Path.{_≡_, sym, _∙_}
 use mathlib.Core.List.{List}
 use Prim.Native.Nat.{ℕ}
@@ -17,7 +17,7 @@ pub record Same (a : Edited) (k s l c m : List ℕ) (a′ : Edited) (k′ s′ l
   pub kind : c ≡ c′
   pub name : m ≡ m′
 
-leaves-only : {o : EditOutcome} {a a′ : Edited} {k s l c m k′ s′ l′ c′ m′ : List ℕ}
+pub leaves-only : {o : EditOutcome} {a a′ : Edited} {k s l c m k′ s′ l′ c′ m′ : List ℕ}
     → Leaves o a k s l c m → Leaves o a′ k′ s′ l′ c′ m′ → Same a k s l c m a′ k′ s′ l′ c′ m′
 leaves-only g h = record {
   answer = g .answers ∙ sym (h .answers);

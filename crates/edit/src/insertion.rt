@@ -18,7 +18,7 @@ use tree::Edited;
 use tree::logic::either;
 
 // Whether a piece would be refused by the check, or begins with a document.
-pub fn bad_piece(
+fn bad_piece(
     key: &[usize],
     size: &[usize],
     level: &[usize],
@@ -38,7 +38,7 @@ pub fn bad_piece(
 }
 
 // Whether one of the first n levels, with add more, is above 63.
-pub fn too_deep(level: &[usize], n: usize, add: usize) -> bool
+fn too_deep(level: &[usize], n: usize, add: usize) -> bool
     requires { ⌜ n ≤ length (now level) ⌝ }
     requires { ⌜ ((i : ℕ) → i < n → at (now level) i ≤ 63) × (add ≤ 64) ⌝ }
     ensures { λ r. ⌜ r ≡ someBelow (λ i. ltb 63 (at (now (level .entry)) i + add)) n ⌝ }
@@ -54,7 +54,7 @@ pub fn too_deep(level: &[usize], n: usize, add: usize) -> bool
 }
 
 // Whether so many rows are above the limit, or more than the shortest column holds.
-pub fn no_room(
+fn no_room(
     key: &[usize],
     size: &[usize],
     level: &[usize],
@@ -74,7 +74,7 @@ pub fn no_room(
 }
 
 // Refusals 10 to 14 of a piece under a row, in their order.
-pub fn check_piece(
+fn check_piece(
     key: &[usize],
     size: &[usize],
     level: &[usize],
@@ -117,7 +117,7 @@ pub fn check_piece(
 
 // The piece becomes the row's last child: the sizes of the row and its ancestors rise, a gap opens in every column,
 // and the piece's levels rise by the row's level and one.
-pub fn open_rows(
+fn open_rows(
     key: &mut [usize],
     size: &mut [usize],
     level: &mut [usize],

@@ -7,7 +7,7 @@ ghost use Rattle.edit.specs.Moved.{answered};
 use tree::Done;
 
 // By rows came in before the row first.
-pub fn down(count: usize, first: usize, by: usize) -> Done
+pub(crate) fn down(count: usize, first: usize, by: usize) -> Done
     requires { ⌜ count + by ≤ 4096 ⌝ }
     ensures { λ r. ⌜ r ≡ answered (count + by) first (pos by) ⌝ }
 {
@@ -20,7 +20,7 @@ pub fn down(count: usize, first: usize, by: usize) -> Done
 }
 
 // The by rows before the row first went.
-pub fn up(count: usize, first: usize, by: usize) -> Done
+pub(crate) fn up(count: usize, first: usize, by: usize) -> Done
     requires { ⌜ (by ≤ count) × (count ≤ 4096) ⌝ }
     ensures { λ r. ⌜ r ≡ answered (count - by) first (minus by) ⌝ }
 {

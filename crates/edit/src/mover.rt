@@ -9,7 +9,7 @@ ghost use Rattle.tree.specs.Edit.{opened};
 ghost use Rattle.edit.specs.Part.{shifted, openedPart, pulled, cleared};
 
 // Moves the first n rows of a part by places towards its end, from the last on.
-pub fn shift_down(part: &mut [usize], n: usize, by: usize)
+fn shift_down(part: &mut [usize], n: usize, by: usize)
     requires { ⌜ n + by ≤ length (now part) ⌝ }
     ensures { λ _. ⌜ now (part .exit) ≡ shifted n by (now (part .entry)) ⌝ }
 {
@@ -21,7 +21,7 @@ pub fn shift_down(part: &mut [usize], n: usize, by: usize)
 }
 
 // Moves the rows of a part from by up to n to its front; the last by of the n rows stay as they were.
-pub fn shift_up(part: &mut [usize], n: usize, by: usize)
+fn shift_up(part: &mut [usize], n: usize, by: usize)
     requires { ⌜ by ≤ n ⌝ }
     requires { ⌜ n ≤ length (now part) ⌝ }
     ensures { λ _. ⌜ now (part .exit)
@@ -36,7 +36,7 @@ pub fn shift_up(part: &mut [usize], n: usize, by: usize)
 }
 
 // Writes the first n of src over the first n rows of a part.
-pub fn put(part: &mut [usize], src: &[usize], n: usize)
+fn put(part: &mut [usize], src: &[usize], n: usize)
     requires { ⌜ n ≤ length (now part) ⌝ }
     requires { ⌜ n ≤ length (now src) ⌝ }
     ensures { λ _. ⌜ now (part .exit) ≡ take n (now (src .entry)) ++ drop n (now (part .entry)) ⌝ }
@@ -49,7 +49,7 @@ pub fn put(part: &mut [usize], src: &[usize], n: usize)
 }
 
 // Writes the first n of src, each with add more, over the first n rows of a part.
-pub fn put_raised(part: &mut [usize], src: &[usize], n: usize, add: usize)
+fn put_raised(part: &mut [usize], src: &[usize], n: usize, add: usize)
     requires { ⌜ n ≤ length (now part) ⌝ }
     requires { ⌜ n ≤ length (now src) ⌝ }
     requires { ⌜ ((i : ℕ) → i < n → at (now src) i + add ≤ 63) ⌝ }
@@ -64,7 +64,7 @@ pub fn put_raised(part: &mut [usize], src: &[usize], n: usize, add: usize)
 }
 
 // Fills the first n rows of a part with zeros.
-pub fn clear(part: &mut [usize], n: usize)
+fn clear(part: &mut [usize], n: usize)
     requires { ⌜ n ≤ length (now part) ⌝ }
     ensures { λ _. ⌜ now (part .exit) ≡ replicate n 0 ++ drop n (now (part .entry)) ⌝ }
 {
@@ -76,7 +76,7 @@ pub fn clear(part: &mut [usize], n: usize)
 }
 
 // The n rows of a part move down, and by rows of a piece come in before them.
-pub fn open_part(part: &mut [usize], n: usize, piece: &[usize], by: usize)
+fn open_part(part: &mut [usize], n: usize, piece: &[usize], by: usize)
     requires { ⌜ n + by ≤ length (now part) ⌝ }
     requires { ⌜ by ≤ length (now piece) ⌝ }
     ensures { λ _. ⌜ now (part .exit) ≡ openedPart n by (now (piece .entry)) (now (part .entry)) ⌝ }
@@ -86,7 +86,7 @@ pub fn open_part(part: &mut [usize], n: usize, piece: &[usize], by: usize)
 }
 
 // The same with the rows of the piece raised.
-pub fn open_part_raised(part: &mut [usize], n: usize, piece: &[usize], by: usize, add: usize)
+fn open_part_raised(part: &mut [usize], n: usize, piece: &[usize], by: usize, add: usize)
     requires { ⌜ n + by ≤ length (now part) ⌝ }
     requires { ⌜ by ≤ length (now piece) ⌝ }
     requires { ⌜ ((i : ℕ) → i < by → at (now piece) i + add ≤ 63) ⌝ }
@@ -98,7 +98,7 @@ pub fn open_part_raised(part: &mut [usize], n: usize, piece: &[usize], by: usize
 }
 
 // Opens a gap in a column of n rows in use, and writes by rows of a piece into it.
-pub fn open_column(column: &mut [usize], gap: usize, n: usize, piece: &[usize], by: usize)
+pub(crate) fn open_column(column: &mut [usize], gap: usize, n: usize, piece: &[usize], by: usize)
     requires { ⌜ gap ≤ n ⌝ }
     requires { ⌜ n + by ≤ length (now column) ⌝ }
     requires { ⌜ by ≤ length (now piece) ⌝ }
@@ -109,7 +109,7 @@ pub fn open_column(column: &mut [usize], gap: usize, n: usize, piece: &[usize], 
 }
 
 // The same with the rows of the piece raised.
-pub fn open_column_raised(
+pub(crate) fn open_column_raised(
     column: &mut [usize],
     gap: usize,
     n: usize,
@@ -130,7 +130,7 @@ pub fn open_column_raised(
 
 // Takes by rows out of a column of n rows in use, from a row on: later rows close up, the freed rows stay as they
 // were.
-pub fn close_column(column: &mut [usize], row: usize, n: usize, by: usize)
+pub(crate) fn close_column(column: &mut [usize], row: usize, n: usize, by: usize)
     requires { ⌜ row + by ≤ n ⌝ }
     requires { ⌜ n ≤ length (now column) ⌝ }
     ensures { λ _. ⌜ now (column .exit) ≡ pulled row n by (now (column .entry)) ⌝ }
@@ -140,7 +140,7 @@ pub fn close_column(column: &mut [usize], row: usize, n: usize, by: usize)
 }
 
 // Fills the rows of a column from one row up to another with zeros.
-pub fn clear_column(column: &mut [usize], from: usize, to: usize)
+pub(crate) fn clear_column(column: &mut [usize], from: usize, to: usize)
     requires { ⌜ from ≤ to ⌝ }
     requires { ⌜ to ≤ length (now column) ⌝ }
     ensures { λ _. ⌜ now (column .exit) ≡ cleared from to (now (column .entry)) ⌝ }

@@ -11,7 +11,7 @@ use tree::Edited;
 use tree::logic::either;
 
 // Whether a row of this kind cannot get this name: it has none, or the name is 0.
-pub fn unfit(kind: usize, new_name: usize) -> bool
+fn unfit(kind: usize, new_name: usize) -> bool
     ensures { λ r. ⌜ r ≡ (not (hasName kind) || eqb «new_name» 0) ⌝ }
 {
     either(!either(kind == 1, kind == 4), new_name == 0)

@@ -22,7 +22,7 @@ fn less(size: usize, far: usize, by: usize) -> usize
 }
 
 // Adds by to the size of the row and of each row before it whose rows reach it.
-pub fn raise(size: &mut [usize], row: usize, by: usize)
+pub(crate) fn raise(size: &mut [usize], row: usize, by: usize)
     requires { ⌜ Raisable (now size) row by ⌝ }
     ensures { λ _. ⌜ now (size .exit) ≡ raised (now (size .entry)) row by ⌝ }
 {
@@ -34,7 +34,7 @@ pub fn raise(size: &mut [usize], row: usize, by: usize)
 }
 
 // Takes by from the size of each row before the row whose rows reach it.
-pub fn lower(size: &mut [usize], row: usize, by: usize)
+pub(crate) fn lower(size: &mut [usize], row: usize, by: usize)
     requires { ⌜ Lowerable (now size) row by ⌝ }
     ensures { λ _. ⌜ now (size .exit) ≡ lowered (now (size .entry)) row by ⌝ }
 {

@@ -16,7 +16,7 @@ pub struct Answer {
 }
 
 // An acceptance, with two numbers and a move.
-pub fn accept(first: usize, second: usize, moved: i64) -> Answer
+fn accept(first: usize, second: usize, moved: i64) -> Answer
     ensures { λ r. ⌜ r ≡ accepted first second moved ⌝ }
 {
     Answer {
@@ -29,7 +29,7 @@ pub fn accept(first: usize, second: usize, moved: i64) -> Answer
 }
 
 // A refusal, with its number and place.
-pub fn refuse(number: usize, place: usize) -> Answer
+fn refuse(number: usize, place: usize) -> Answer
     ensures { λ r. ⌜ r ≡ refused number place ⌝ }
 {
     Answer {
@@ -42,7 +42,7 @@ pub fn refuse(number: usize, place: usize) -> Answer
 }
 
 // What a check answers.
-pub fn of_check(checked: Checked) -> Answer
+pub(crate) fn of_check(checked: Checked) -> Answer
     ensures { λ r. ⌜ r ≡ checkAnswer checked ⌝ }
 {
     match checked {
@@ -52,7 +52,7 @@ pub fn of_check(checked: Checked) -> Answer
 }
 
 // What finding a key answers: the row first.
-pub fn of_find(found: Found) -> Answer
+pub(crate) fn of_find(found: Found) -> Answer
     ensures { λ r. ⌜ r ≡ findAnswer found ⌝ }
 {
     match found {
@@ -62,7 +62,7 @@ pub fn of_find(found: Found) -> Answer
 }
 
 // What a step answers: the number of results first, then the kept count.
-pub fn of_step(stepped: Stepped) -> Answer
+pub(crate) fn of_step(stepped: Stepped) -> Answer
     ensures { λ r. ⌜ r ≡ stepAnswer stepped ⌝ }
 {
     match stepped {
@@ -72,7 +72,7 @@ pub fn of_step(stepped: Stepped) -> Answer
 }
 
 // What an edit answers: the new count first, then the first moved row, and the move.
-pub fn of_edit(edited: Edited) -> Answer
+pub(crate) fn of_edit(edited: Edited) -> Answer
     ensures { λ r. ⌜ r ≡ editAnswer edited ⌝ }
 {
     match edited {

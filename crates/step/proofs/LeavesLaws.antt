@@ -1,6 +1,6 @@
 -- What a step leaves, by the way it ends: refused by a check (`leaves-refused`), without room (`leaves-full`, else
--- `room-fits`), or with its lines written (`leaves-listed`). `leaves-only`: two ends that the contract allows are
--- the same. `call-known`: what the checks that pass say. Assumes nothing.
+-- `room-fits`), or with its lines written (`leaves-listed`). `step-only`: two ends that the contracts of
+-- `step` and `step_known` allow are the same. `call-known`: what the checks that pass say. Assumes nothing.
 use mathlib.Core.Path.{_≡_, refl, sym, ap, ap₂, _∙_}
 use mathlib.Core.Bool.{Bool}
 use mathlib.Core.List.{List}
@@ -91,10 +91,10 @@ module _ (t : Table) (a : Ask) (role row outRole outRow : List ℕ) where
     row-is = w .rows .holds;
   })
 
--- two ends that the contract allows are the same
-pub leaves-only : {o : StepOutcome} {x y : Stepped} {a b c d : List ℕ} → Leaves o x a b → Leaves o y c d
+-- two ends that a contract allows are the same
+pub step-only : {o : StepOutcome} {x y : Stepped} {a b c d : List ℕ} → Leaves o x a b → Leaves o y c d
     → (x ≡ y) × (a ≡ c) × (b ≡ d)
-leaves-only p q = (
+step-only p q = (
   p .answers ∙ sym (q .answers),
   p .role-is ∙ sym (q .role-is),
   p .row-is ∙ sym (q .row-is),

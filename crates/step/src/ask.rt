@@ -7,7 +7,7 @@ ghost use Rattle.step.specs.Steps.{askOf};
 use tree::Checked;
 
 // Whether the axis code is known.
-pub fn axis_ok(axis: usize) -> bool
+fn axis_ok(axis: usize) -> bool
     ensures { λ r. ⌜ r ≡ axisOk axis ⌝ }
 {
     match axis {
@@ -17,7 +17,7 @@ pub fn axis_ok(axis: usize) -> bool
 }
 
 // Whether the test code is known and the name fits it.
-pub fn test_ok(test: usize, test_name: usize) -> bool
+fn test_ok(test: usize, test_name: usize) -> bool
     ensures { λ r. ⌜ r ≡ testOk test «test_name» ⌝ }
 {
     match test {
@@ -28,7 +28,7 @@ pub fn test_ok(test: usize, test_name: usize) -> bool
 }
 
 // Refusal 6 or 7, or that the codes are right.
-pub fn check_ask(axis: usize, test: usize, test_name: usize) -> Checked
+pub(crate) fn check_ask(axis: usize, test: usize, test_name: usize) -> Checked
     ensures { λ r. ⌜ r ≡ askCheck (askOf axis test «test_name») ⌝ }
 {
     if !axis_ok(axis) {

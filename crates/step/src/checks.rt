@@ -8,7 +8,7 @@ use table::pairs::check_pairs;
 use tree::Checked;
 
 // Refusals 3 to 7.
-pub fn check_pairs_and_ask(
+fn check_pairs_and_ask(
     role: &[usize],
     row: &[usize],
     count: usize,
@@ -28,7 +28,7 @@ pub fn check_pairs_and_ask(
 }
 
 // Refusals 1 to 7.
-pub fn check_call(
+pub(crate) fn check_call(
     key: &[usize],
     size: &[usize],
     level: &[usize],

@@ -67,7 +67,13 @@ fn kept_distinct(size: &[usize], level: &[usize], count: usize, rows: &[usize]) 
 }
 
 // How many distinct contexts of one role remain on an axis when redundant ones are dropped.
-pub fn kept_of(axis: usize, size: &[usize], level: &[usize], count: usize, rows: &[usize]) -> usize
+pub(crate) fn kept_of(
+    axis: usize,
+    size: &[usize],
+    level: &[usize],
+    count: usize,
+    rows: &[usize],
+) -> usize
     requires { ⌜ KeptIn (now size) (now level) count (now rows) ⌝ }
     ensures { λ r. ⌜ r ≡ keptOf axis (now (level .entry)) (now (rows .entry)) ⌝ }
 {

@@ -5,12 +5,12 @@ ghost use Rattle.tree.specs.Outcome.{stepOutcome};
 ghost use Rattle.step.specs.Steps.{askOf};
 ghost use Rattle.step.specs.Leaves.{Leaves, Known};
 
-pub mod ask; // ask.rt: the axis code, the test code and its name
-pub mod checks; // checks.rt: refusals 1 to 7
-pub mod kept; // kept.rt: the kept count of one role
-pub mod most; // most.rt: an upper bound of the number of lines
-pub mod roles; // roles.rt: all roles
-pub mod room; // room.rt: whether the lines fit
+mod ask; // ask.rt: the axis code, the test code and its name
+mod checks; // checks.rt: refusals 1 to 7
+mod kept; // kept.rt: the kept count of one role
+mod most; // most.rt: an upper bound of the number of lines
+mod roles; // roles.rt: all roles
+mod room; // room.rt: whether the lines fit
 
 use axis::role::parents_for;
 use tree::Checked;

@@ -106,7 +106,7 @@ fn axis_fits(
 }
 
 // Whether the lines of the step surely are at most `room`; where it says false, they may be so all the same.
-pub fn surely_fits(
+pub(crate) fn surely_fits(
     key: &[usize],
     size: &[usize],
     level: &[usize],

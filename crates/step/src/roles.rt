@@ -14,7 +14,7 @@ use axis::role::one_role;
 use axis::want::wanted_kind;
 
 // The place after the run of equal roles that begins at i.
-pub fn run_end(role: &[usize], i: usize) -> usize
+fn run_end(role: &[usize], i: usize) -> usize
     requires { ⌜ i < length (now role) ⌝ }
     ensures { λ r. ⌜ RunEnd (now (role .entry)) i r ⌝ }
 {
@@ -30,7 +30,7 @@ pub fn run_end(role: &[usize], i: usize) -> usize
 }
 
 // Writes v to the first n places.
-pub fn fill(part: &mut [usize], n: usize, v: usize)
+fn fill(part: &mut [usize], n: usize, v: usize)
     requires { ⌜ n ≤ length (now part) ⌝ }
     ensures { λ _. ⌜ Wrote (replicate n v) (now (part .entry)) n (now (part .exit)) ⌝ }
 {
@@ -42,7 +42,7 @@ pub fn fill(part: &mut [usize], n: usize, v: usize)
 }
 
 // How many lines the step has: each role's rows are written to a scratch column.
-pub fn count_all(
+pub(crate) fn count_all(
     key: &[usize],
     size: &[usize],
     level: &[usize],
@@ -90,13 +90,13 @@ pub fn count_all(
 }
 
 // How many lines a step has, and how many distinct pairs remain when redundant ones are dropped.
-pub struct Tally {
+pub(crate) struct Tally {
     pub listed: usize,
     pub kept: usize,
 }
 
 // Writes the lines of the step to the front of the result columns; answers how many, and the kept count.
-pub fn write_all(
+pub(crate) fn write_all(
     key: &[usize],
     size: &[usize],
     level: &[usize],

@@ -12,7 +12,7 @@ use super::roles::count_all;
 use tree::Checked;
 
 // Refusal 8 with the number of lines, or that they are at most room.
-pub fn check_room(
+pub(crate) fn check_room(
     key: &[usize],
     size: &[usize],
     level: &[usize],

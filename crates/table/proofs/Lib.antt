@@ -1,3 +1,4 @@
 pub mod KeyLaws
 pub mod OpenLaws
 pub mod PairLaws
+pub mod OnlyLaws

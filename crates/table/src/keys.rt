@@ -9,7 +9,7 @@ ghost use Rattle.table.specs.First.{firstKey, firstClash};
 ghost use Rattle.table.specs.Chain.{bucketOf, Chained};
 
 // The least of the first n rows with the key x, or n.
-pub fn row_of(key: &[usize], n: usize, x: usize) -> usize
+pub(crate) fn row_of(key: &[usize], n: usize, x: usize) -> usize
     requires { ⌜ n ≤ length (now key) ⌝ }
     ensures { λ r. ⌜ r ≡ rowOf (now (key .entry)) n x ⌝ }
 {
@@ -24,14 +24,14 @@ pub fn row_of(key: &[usize], n: usize, x: usize) -> usize
 }
 
 // The bucket of a key.
-pub fn bucket(x: usize) -> usize
+fn bucket(x: usize) -> usize
     ensures { λ r. ⌜ (r ≡ bucketOf x) × (r < 16384) ⌝ }
 {
     x % 16381
 }
 
 // Whether no row below i has the key x: a walk along the chain of x's bucket.
-pub fn fresh(key: &[usize], heads: &[u16; 16384], next: &[u16; 4096], i: usize, x: usize) -> bool
+fn fresh(key: &[usize], heads: &[u16; 16384], next: &[u16; 4096], i: usize, x: usize) -> bool
     requires { ⌜ (i ≤ 4096) × (i ≤ length (now key)) ⌝ }
     requires { ⌜ Chained (now key) (now heads) (now next) i ⌝ }
     ensures { λ r. ⌜ r ≡ eqb (rowOf (now (key .entry)) i x) i ⌝ }
@@ -50,7 +50,7 @@ pub fn fresh(key: &[usize], heads: &[u16; 16384], next: &[u16; 4096], i: usize, 
 
 // The least of the first n rows whose key is 0 or that of an earlier row, or n. The time is that of the rows, on
 // keys that spread over the buckets; on others it grows with the longest chain.
-pub fn first_key(key: &[usize], n: usize) -> usize
+pub(crate) fn first_key(key: &[usize], n: usize) -> usize
     requires { ⌜ (n ≤ 4096) × (n ≤ length (now key)) ⌝ }
     ensures { λ r. ⌜ r ≡ firstKey (now (key .entry)) n ⌝ }
 {
@@ -74,7 +74,7 @@ pub fn first_key(key: &[usize], n: usize) -> usize
 }
 
 // Chains the first n rows, without a test of their keys.
-pub fn chain(key: &[usize], heads: &mut [u16; 16384], next: &mut [u16; 4096], n: usize)
+fn chain(key: &[usize], heads: &mut [u16; 16384], next: &mut [u16; 4096], n: usize)
     requires { ⌜ (n ≤ 4096) × (n ≤ length (now key)) ⌝ }
     requires { ⌜ (length (now heads) ≡ 16384) × (length (now next) ≡ 4096) ⌝ }
     requires { ⌜ Chained (now key) (now heads) (now next) 0 ⌝ }
@@ -90,7 +90,7 @@ pub fn chain(key: &[usize], heads: &mut [u16; 16384], next: &mut [u16; 4096], n:
 }
 
 // The least of the first m rows of a piece whose key one of the first n rows has, or m: a search for each key.
-pub fn clash_by_rows(key: &[usize], n: usize, piece: &[usize], m: usize) -> usize
+fn clash_by_rows(key: &[usize], n: usize, piece: &[usize], m: usize) -> usize
     requires { ⌜ n ≤ length (now key) ⌝ }
     requires { ⌜ m ≤ length (now piece) ⌝ }
     ensures { λ r. ⌜ r ≡ firstClash (now (key .entry)) n (now (piece .entry)) m ⌝ }
@@ -106,7 +106,7 @@ pub fn clash_by_rows(key: &[usize], n: usize, piece: &[usize], m: usize) -> usiz
 }
 
 // The same by the chains of the first n rows, in time linear in both.
-pub fn clash_by_chains(key: &[usize], n: usize, piece: &[usize], m: usize) -> usize
+fn clash_by_chains(key: &[usize], n: usize, piece: &[usize], m: usize) -> usize
     requires { ⌜ (n ≤ 4096) × (n ≤ length (now key)) ⌝ }
     requires { ⌜ m ≤ length (now piece) ⌝ }
     ensures { λ r. ⌜ r ≡ firstClash (now (key .entry)) n (now (piece .entry)) m ⌝ }

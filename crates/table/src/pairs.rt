@@ -15,7 +15,7 @@ use tree::logic::both;
 use tree::logic::either;
 
 // Whether the pair (r, v) comes before the pair (q, w).
-pub fn comes_before(r: usize, v: usize, q: usize, w: usize) -> bool
+fn comes_before(r: usize, v: usize, q: usize, w: usize) -> bool
     ensures { λ b. ⌜ b ≡ before r v q w ⌝ }
 {
     either(r < q, both(r == q, v < w))
@@ -23,7 +23,7 @@ pub fn comes_before(r: usize, v: usize, q: usize, w: usize) -> bool
 
 // Whether some pair is less than the one before it: false only where none is. All places are looked at without a
 // branch.
-pub fn falls_somewhere(role: &[usize], row: &[usize]) -> bool
+fn falls_somewhere(role: &[usize], row: &[usize]) -> bool
     requires { ⌜ length (now role) ≤ length (now row) ⌝ }
     ensures { λ r. ⌜ (r ≡ false → Ordered (now (role .entry)) (now (row .entry))) ⌝ }
 {
@@ -40,7 +40,7 @@ pub fn falls_somewhere(role: &[usize], row: &[usize]) -> bool
 }
 
 // Whether some row is not below the count: false only where none is.
-pub fn leaves_somewhere(row: &[usize], count: usize) -> bool
+fn leaves_somewhere(row: &[usize], count: usize) -> bool
     ensures { λ r. ⌜ (r ≡ false → Inside (now (row .entry)) count) ⌝ }
 {
     let mut outside = false;
@@ -53,7 +53,7 @@ pub fn leaves_somewhere(row: &[usize], count: usize) -> bool
 }
 
 // Whether the pair at place i is less than the one before it.
-pub fn out_of_order(role: &[usize], row: &[usize], i: usize) -> bool
+fn out_of_order(role: &[usize], row: &[usize], i: usize) -> bool
     requires { ⌜ (i < length (now role)) × (i < length (now row)) ⌝ }
     ensures { λ r. ⌜ r ≡ outOfOrder (now (role .entry)) (now (row .entry)) i ⌝ }
 {
@@ -64,7 +64,7 @@ pub fn out_of_order(role: &[usize], row: &[usize], i: usize) -> bool
 }
 
 // The least place whose pair is less than the one before it, or the number of pairs.
-pub fn first_disorder(role: &[usize], row: &[usize]) -> usize
+fn first_disorder(role: &[usize], row: &[usize]) -> usize
     requires { ⌜ length (now role) ≤ length (now row) ⌝ }
     ensures { λ r. ⌜ r ≡ least (outOfOrder (now (role .entry)) (now (row .entry))) (length (now (role .entry))) ⌝ }
 {
@@ -79,7 +79,7 @@ pub fn first_disorder(role: &[usize], row: &[usize]) -> usize
 }
 
 // The least place whose row is not below the count, or the number of pairs.
-pub fn first_outside(row: &[usize], count: usize) -> usize
+fn first_outside(row: &[usize], count: usize) -> usize
     ensures { λ r. ⌜ r ≡ least (λ i. not (ltb (at (now (row .entry)) i) count)) (length (now (row .entry))) ⌝ }
 {
     let mut i = 0;

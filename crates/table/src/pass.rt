@@ -13,7 +13,7 @@ use tree::logic::both;
 
 // Whether a later row keeps the rules of level, kind and name after a row of level top, with a size that is no more
 // than a table has rows. Most rows are elements, so they come first.
-pub fn row_fits(own: usize, top: usize, kind: usize, size: usize, name: usize, i: usize) -> bool
+fn row_fits(own: usize, top: usize, kind: usize, size: usize, name: usize, i: usize) -> bool
     requires { ⌜ top < 64 ⌝ }
     ensures { λ r. ⌜ r ≡ rowFits own top kind size name i ⌝ }
 {
@@ -36,7 +36,7 @@ pub fn row_fits(own: usize, top: usize, kind: usize, size: usize, name: usize, i
 }
 
 // Whether row 0 keeps the same rules.
-pub fn root_fits(own: usize, kind: usize, size: usize, name: usize) -> bool
+fn root_fits(own: usize, kind: usize, size: usize, name: usize) -> bool
     ensures { λ r. ⌜ r ≡ rootFits own kind size name ⌝ }
 {
     both(
@@ -46,7 +46,7 @@ pub fn root_fits(own: usize, kind: usize, size: usize, name: usize) -> bool
 }
 
 // Whether the open rows of the levels low to high all have to end before row i.
-pub fn end_at(ends: &[usize; 64], low: usize, high: usize, i: usize) -> bool
+fn end_at(ends: &[usize; 64], low: usize, high: usize, i: usize) -> bool
     requires { ⌜ high < 64 ⌝ }
     ensures { λ r. ⌜ (r ≡ true → EndAt (now (ends .entry)) low high i) ⌝ }
 {
@@ -61,7 +61,7 @@ pub fn end_at(ends: &[usize; 64], low: usize, high: usize, i: usize) -> bool
 }
 
 // Whether every row keeps all rules but the key's: true only where it is so.
-pub fn all_fit(
+pub(crate) fn all_fit(
     key: &[usize],
     size: &[usize],
     level: &[usize],

@@ -33,7 +33,7 @@ pub fn shortest(
 }
 
 // Whether the count is 1 to 4,096 and no column is shorter.
-pub fn count_ok(
+pub(crate) fn count_ok(
     key: &[usize],
     size: &[usize],
     level: &[usize],
@@ -52,7 +52,7 @@ pub fn count_ok(
 }
 
 // Level: 0 at row 0; at a later row from 1 to one more than the row before has; never above 63.
-pub fn level_ok(level: &[usize], i: usize) -> bool
+fn level_ok(level: &[usize], i: usize) -> bool
     requires { ⌜ i < length (now level) ⌝ }
     ensures { λ r. ⌜ r ≡ levelOk (now (level .entry)) i ⌝ }
 {
@@ -74,7 +74,7 @@ pub fn level_ok(level: &[usize], i: usize) -> bool
 }
 
 // How many levels from the front of the part on are above top.
-pub fn run(part: &[usize], top: usize) -> usize
+fn run(part: &[usize], top: usize) -> usize
     ensures { λ r. ⌜ r ≡ runOf (now (part .entry)) top ⌝ }
 {
     let mut k = 0;
@@ -88,7 +88,7 @@ pub fn run(part: &[usize], top: usize) -> usize
 }
 
 // Size: the number of rows in use directly after row i, without a break, whose level is above its own.
-pub fn size_ok(size: &[usize], level: &[usize], count: usize, i: usize) -> bool
+fn size_ok(size: &[usize], level: &[usize], count: usize, i: usize) -> bool
     requires { ⌜ i < count ⌝ }
     requires { ⌜ count ≤ length (now size) ⌝ }
     requires { ⌜ count ≤ length (now level) ⌝ }
@@ -100,7 +100,7 @@ pub fn size_ok(size: &[usize], level: &[usize], count: usize, i: usize) -> bool
 }
 
 // Kind: 0 to 4; 0 only at row 0; 2, 3 and 4 have size 0.
-pub fn kind_ok(kind: usize, size: usize, i: usize) -> bool
+pub(crate) fn kind_ok(kind: usize, size: usize, i: usize) -> bool
     ensures { λ r. ⌜ r ≡ kindOk kind size i ⌝ }
 {
     both(
@@ -110,7 +110,7 @@ pub fn kind_ok(kind: usize, size: usize, i: usize) -> bool
 }
 
 // Name: not 0 for kinds 1 and 4, 0 for the others.
-pub fn name_ok(kind: usize, name: usize) -> bool
+pub(crate) fn name_ok(kind: usize, name: usize) -> bool
     ensures { λ r. ⌜ r ≡ nameOk kind name ⌝ }
 {
     if kind == 1 {
@@ -123,7 +123,7 @@ pub fn name_ok(kind: usize, name: usize) -> bool
 }
 
 // All rules of row i but the key's.
-pub fn rest_ok(
+fn rest_ok(
     key: &[usize],
     size: &[usize],
     level: &[usize],
@@ -148,7 +148,7 @@ pub fn rest_ok(
 }
 
 // The least row that breaks a rule other than the key's, or the count, looked for row by row.
-pub fn search_rest(
+fn search_rest(
     key: &[usize],
     size: &[usize],
     level: &[usize],
@@ -172,7 +172,7 @@ pub fn search_rest(
 }
 
 // The same, by one pass where no row breaks a rule.
-pub fn first_rest(
+fn first_rest(
     key: &[usize],
     size: &[usize],
     level: &[usize],
@@ -192,7 +192,7 @@ pub fn first_rest(
 }
 
 // The least row that is not sound, or the count.
-pub fn first_bad(
+pub(crate) fn first_bad(
     key: &[usize],
     size: &[usize],
     level: &[usize],
