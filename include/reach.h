@@ -1,16 +1,21 @@
 /*
- * The reach engine for C. Link target/staticlib/libreach_c.a, which `rt staticlib reach_c` writes.
+ * The reach engine for C. Link target/staticlib/libreach_c.a, which `make library` proves and writes.
  *
- * A plant is a table of five columns (key, size, level, kind, name) with a count of rows in use; rows are numbered from 0 in
- * document order. A column may be longer than the count; its spare rows are never read. Every column is lent for the call
- * alone: the library keeps no pointer, allocates nothing and may be called from several threads on different columns.
+ * A plant is a table of five columns (key, size, level, kind, name) with a count of rows in use; rows are numbered
+ * from 0 in document order. A column may be longer than the count; its spare rows are never read. Each column is
+ * passed as a pointer and its length in elements.
  *
- * Each column is passed as a pointer and its length in elements. No input needs checking first: a bad table or key gets a
- * refusal, and a refused call changes no column. Two duties remain with the caller, as for any C function: a pointer is
- * never null (also at length 0) and reaches as many elements as the length says, and a column that a function may write
- * overlaps no other column of the call.
+ * Who owns what. Every column is the caller's, before, during and after the call: the library keeps no pointer,
+ * allocates nothing, holds no state, and may be called from several threads on different columns. A column passed
+ * as `const size_t *` is only read. A column passed as `size_t *` may be written, and is left as it was, in every
+ * element, when the call is refused.
  *
- * Nodes: kind 0 document, 1 element, 2 text, 3 comment, 4 processing instruction. Limits: 1 to 4,096 rows, levels 0 to 63.
+ * No input needs checking first: a bad table, pair, code or key gets a refusal. Two duties remain with the caller,
+ * as for any C function: a pointer is never null (also at length 0) and reaches as many elements as the length
+ * says, and a column that a function may write overlaps no other column of the call.
+ *
+ * Nodes: kind 0 document, 1 element, 2 text, 3 comment, 4 processing instruction. Limits: 1 to 4,096 rows, levels
+ * 0 to 63, at most 4,096 pairs.
  */
 #ifndef REACH_H
 #define REACH_H
@@ -33,22 +38,22 @@ typedef struct {
 
 /* Refusal numbers. Where several apply, the lowest is given. */
 enum {
-    REACH_BAD_COUNT = 1,   /* the count is 0, above 4,096, or above the shortest table column; place 0 */
-    REACH_UNSOUND_ROW = 2, /* a row is not sound; place: the least such row */
-    REACH_BAD_PAIRS = 3,   /* pair columns differ in length or exceed 4,096; place 0 */
-    REACH_DISORDER = 4,    /* a pair is less than the one before it; place: the least such place */
-    REACH_NO_SUCH_ROW = 5, /* a pair's row is not below the count; place: the least such place */
-    REACH_BAD_AXIS = 6,    /* the axis code is not 1 to 11; place 0 */
-    REACH_BAD_TEST = 7,    /* the test code is not 0 to 7, or the name does not fit it; place 0 */
-    REACH_NO_ROOM = 8,     /* more results than the shorter result column holds; place: the number of results */
-    REACH_NO_SUCH_KEY = 9, /* no row in use has the key (always so for key 0); place 0 */
-    REACH_BAD_PIECE = 10,  /* the piece would get refusal 1 or 2, or its row 0 is a document; place 0 */
-    REACH_NOT_A_PARENT = 11, /* the parent's kind is neither 0 nor 1; place: its row */
-    REACH_TOO_DEEP = 12,     /* an inserted level would exceed 63; place 0 */
-    REACH_KEY_TAKEN = 13,    /* a piece's key is in the table; place: the least such piece row */
-    REACH_TABLE_FULL = 14,   /* the new count would exceed 4,096 or the shortest table column; place 0 */
-    REACH_IS_ROOT = 15,      /* the row to delete is row 0; place 0 */
-    REACH_NO_NEW_NAME = 16   /* the row to rename is not of kind 1 or 4, or the new name is 0; place: its row */
+    REACH_BAD_COUNT = 1,          /* the count is 0, above 4,096, or above the shortest table column; place 0 */
+    REACH_UNSOUND_ROW = 2,        /* a row is not sound; place: the least such row */
+    REACH_BAD_PAIR_COLUMNS = 3,   /* the pair columns differ in length or exceed 4,096; place 0 */
+    REACH_PAIR_OUT_OF_ORDER = 4,  /* a pair is less than the one before it; place: the least such place */
+    REACH_PAIR_OUTSIDE_TABLE = 5, /* a pair's row is not below the count; place: the least such place */
+    REACH_BAD_AXIS = 6,           /* the axis code is not 1 to 11; place 0 */
+    REACH_BAD_TEST = 7,           /* the test code is not 0 to 7, or the name does not fit it; place 0 */
+    REACH_TOO_MANY_RESULTS = 8,   /* more results than the shorter result column holds; place: their number */
+    REACH_UNKNOWN_KEY = 9,        /* no row in use has the key (always so for key 0); place 0 */
+    REACH_BAD_PIECE = 10,         /* the piece would get refusal 1 or 2, or its row 0 is a document; place 0 */
+    REACH_NOT_A_PARENT = 11,      /* the parent's kind is neither 0 nor 1; place: its row */
+    REACH_TOO_DEEP = 12,          /* an inserted level would exceed 63; place 0 */
+    REACH_KEY_TAKEN = 13,         /* a piece's key is in the table; place: the least such piece row */
+    REACH_NO_ROOM = 14,           /* the new count would exceed 4,096 or the shortest table column; place 0 */
+    REACH_DELETES_ROOT = 15,      /* the row to delete is row 0; place 0 */
+    REACH_BAD_RENAME = 16         /* the row to rename is not of kind 1 or 4, or the new name is 0; place: its row */
 };
 
 /* Axis codes of a step. */
@@ -78,21 +83,21 @@ enum {
     REACH_DOCUMENT = 7
 };
 
-/* Checks the table: refusals 1 and 2. Writes nothing. */
+/* Checks whether the table is sound: refusals 1 and 2. Reads five columns, writes none. */
 reach_answer reach_check(const size_t *key, size_t key_length, const size_t *size, size_t size_length,
                          const size_t *level, size_t level_length, const size_t *kind, size_t kind_length,
                          const size_t *name, size_t name_length, size_t count);
 
-/* Finds the row of a key, in first: refusals 1, 2 and 9. Writes nothing. */
+/* Finds the row of the key wanted, in first: refusals 1, 2 and 9. Reads five columns, writes none. */
 reach_answer reach_find(const size_t *key, size_t key_length, const size_t *size, size_t size_length,
                         const size_t *level, size_t level_length, const size_t *kind, size_t kind_length,
                         const size_t *name, size_t name_length, size_t count, size_t wanted);
 
 /*
- * One location step for all roles at once: refusals 1 to 8. The pairs (role, row) ascend by role, then row; equal pairs count
- * once. The results, strictly ascending by role, then row, are written to out_role and out_row from place 0 on; places beyond
- * them stay as they were, and nothing is written on a refusal. first: the number of results. second: how many distinct
- * pairs remain when redundant ones are dropped.
+ * One location step for all roles at once: refusals 1 to 8. Reads the table and the pairs (role, row), which
+ * ascend by role, then row; equal pairs count once. Writes out_role and out_row alone: the results, strictly
+ * ascending by role, then row, from place 0 on; places beyond them stay as they were. The two need not be equally
+ * long. first: the number of results. second: how many distinct pairs remain when redundant ones are dropped.
  */
 reach_answer reach_step(const size_t *key, size_t key_length, const size_t *size, size_t size_length,
                         const size_t *level, size_t level_length, const size_t *kind, size_t kind_length,
@@ -101,24 +106,30 @@ reach_answer reach_step(const size_t *key, size_t key_length, const size_t *size
                         size_t *out_role, size_t out_role_length, size_t *out_row, size_t out_row_length);
 
 /*
- * Edits by key. The five table columns are lent to be written; the caller keeps the new count, which is in first. second is the
- * first moved row in old numbering (the old count where none follows), moved by how many rows it moved. On a refusal no
- * column changes.
+ * Edits by key. They write the five table columns; the caller keeps the new count, which is in first. second is
+ * the first row that moved, in old numbering, and moved by how many rows: where no row moved, second is the old
+ * count, and after a rename moved is 0. Spare rows stay as they were, but for those that an insertion uses.
  */
 
-/* The piece, a table of its own, becomes the last child of the row of the key parent: refusals 1, 2, 9 to 14. */
+/*
+ * The piece, a table of its own whose columns are only read, becomes the last child of the row of the key parent:
+ * its levels rise by that row's level plus one, later rows move down: refusals 1, 2, 9 to 14.
+ */
 reach_answer reach_insert(size_t *key, size_t key_length, size_t *size, size_t size_length, size_t *level,
                           size_t level_length, size_t *kind, size_t kind_length, size_t *name, size_t name_length,
                           size_t count, size_t parent, const size_t *p_key, size_t p_key_length, const size_t *p_size,
                           size_t p_size_length, const size_t *p_level, size_t p_level_length, const size_t *p_kind,
                           size_t p_kind_length, const size_t *p_name, size_t p_name_length, size_t p_count);
 
-/* The row of the key goes with its descendants; the freed rows are zero in all five columns: refusals 1, 2, 9, 15. */
+/*
+ * The row of the key wanted goes with its descendants, later rows close up, and the rows freed at the end are zero
+ * in all five columns: refusals 1, 2, 9, 15.
+ */
 reach_answer reach_delete(size_t *key, size_t key_length, size_t *size, size_t size_length, size_t *level,
                           size_t level_length, size_t *kind, size_t kind_length, size_t *name, size_t name_length,
                           size_t count, size_t wanted);
 
-/* The row of the key gets a new name: refusals 1, 2, 9, 16. */
+/* The row of the key wanted gets the name new_name; nothing else changes: refusals 1, 2, 9, 16. */
 reach_answer reach_rename(size_t *key, size_t key_length, size_t *size, size_t size_length, size_t *level,
                           size_t level_length, size_t *kind, size_t kind_length, size_t *name, size_t name_length,
                           size_t count, size_t wanted, size_t new_name);

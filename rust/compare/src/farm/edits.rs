@@ -3,6 +3,7 @@
 use super::farm;
 use crate::case::{Answer, Call, Case, Columns, Insert};
 use crate::judge::{Difference, Judge};
+use crate::tables::chain;
 
 /// What the one spare row holds.
 const SPARE: usize = 77;
@@ -125,7 +126,13 @@ fn refusals(judge: &mut Judge<'_>) -> Result<(), Difference> {
             insert(31, Columns { kind: vec![0], name: vec![0], ..setpoint() }),
             Answer::refused(10, 0),
         ),
+        (
+            "an unsound piece",
+            insert(31, Columns { size: vec![1], ..setpoint() }),
+            Answer::refused(10, 0),
+        ),
         ("a comment as parent", insert(40, setpoint()), Answer::refused(11, 9)),
+        ("too deep", insert(22, chain(61)), Answer::refused(12, 0)),
         (
             "a key that is taken",
             insert(31, Columns { key: vec![50, 24], ..long.clone() }),
