@@ -1,8 +1,8 @@
--- An accepted edit: its answer and its table are those that the definitions give, `accepted-answer`, `accepted-table`.
--- An edit is accepted exactly if no refusal applies, `accepted-fits`, `fits-accepted`. The table after it is sound,
--- `after-sound`, has the edited nodes, `after-nodes`, at most as many rows more as came in, `after-count`, and columns
--- as long as before, `after-shortest`. Assumes nothing.
-use mathlib.Core.Path.{_≡_, refl, ap, ap₂, subst, _∙_}
+-- An edit is accepted exactly if no refusal applies, `accepted-fits`, `fits-accepted`. An accepted edit's answer and
+-- table are those that the definitions give, `accepted-answer`, `accepted-table`, `accepted-has`. The table after it is
+-- sound, `after-sound`, has the edited nodes, `after-nodes`, at most as many rows more as came in, `after-count`, and
+-- columns as long as before, `after-lengths`, `after-shortest`. Assumes nothing.
+use mathlib.Core.Path.{_≡_, refl, sym, ap, ap₂, subst, subst₂, _∙_}
 use mathlib.Core.List.{List, map}
 use Prim.Native.Nat.{ℕ, _+_, _≤_, min}
 use native.Mathlib.Omega.{arith}
@@ -24,6 +24,7 @@ use Rattle.tree.proofs.EditLaws.{gap-fits, nodes-inserted, nodes-deleted, nodes
 use Rattle.tree.proofs.EditSound.{sound-inserted, sound-deleted, sound-renamed}
 use Rattle.commute.specs.Act.{Act, insertion, deletion, renaming, outcome, Accepted, keyOf, rowNamed, brings}
 use Rattle.commute.specs.Act.{tableAfter, doneOf}
+use Rattle.commute.specs.Spare.{SameLengths}
 
 -- ── accepted in plain words ──
 -- the edit's own check of the row that it names
@@ -79,6 +80,14 @@ accepted-answer a t h = ap (λ (o : EditOutcome). o .answer) (fits-outcome a t (
 pub accepted-table : (a : Act) (t : Table) → Accepted (outcome a t) → outcome a t .table ≡ tableAfter a t
 accepted-table a t h = ap (λ (o : EditOutcome). o .table) (fits-outcome a t (accepted-fits a t h))
 
+-- so what holds of these holds of the call's own answer and table
+pub accepted-has : (P : Done → Table → Type 0) (a : Act) (t : Table) (d : Done) → outcome a t .answer ≡ Made d
+    → (Fits a t → P (doneOf a t) (tableAfter a t)) → P d (outcome a t .table)
+accepted-has P a t d e h =
+    let o : Accepted (outcome a t) = (d, e) in
+    let q : Made (doneOf a t) ≡ Made d = sym (accepted-answer a t o) ∙ e in
+    subst₂ P (cc) (sym (accepted-table a t o)) (h (accepted-fits a t o))
+
 -- ── the table after an edit ──
 -- it is sound
 pub after-sound : (a : Act) (t : Table) → Fits a t → Sound (tableAfter a t)
@@ -111,17 +120,10 @@ after-count (insertion k p) t = omega arith
 after-count (deletion k) t = omega arith
 after-count (renaming k m) t = omega arith
 
--- columns as long have the same shortest
-shortest-same : (t u : Table) → length (t .key) ≡ length (u .key) → length (t .size) ≡ length (u .size)
-    → length (t .level) ≡ length (u .level) → length (t .kind) ≡ length (u .kind) → length (t .name) ≡ length (u .name)
-    → shortest t ≡ shortest u
-unfolding shortest
-shortest-same t u a b c d e = ap₂ min a (ap₂ min b (ap₂ min c (ap₂ min d e)))
-
--- and the edit leaves every column as long as it was
-pub after-shortest : (a : Act) (t : Table) → Fits a t → shortest (tableAfter a t) ≡ shortest t
+-- every column is as long as it was
+pub after-lengths : (a : Act) (t : Table) → Fits a t → SameLengths t (tableAfter a t)
 unfolding inserted deleted renamed gapOf shortest
-after-shortest (insertion k p) t f =
+after-lengths (insertion k p) t f =
     let r : ℕ = rowNamed (insertion k p) t in
     let i : InsertFits t r p = insert-passes t r p .0 (f .passes) in
     let u : InUse p = i .piece .in-use in
@@ -130,22 +132,39 @@ after-shortest (insertion k p) t f =
     → length (opened (gapOf t r) (t .count) (p .count) ps zs) ≡ length xs =
     λ ps zs xs e a b.
     length-opened _ (t .count) (p .count) ps zs (gap-fits t (f .sound) r (f .found)) a (omega arith) ∙ e in
-    shortest-same (tableAfter (insertion k p) t) t (col (p .key) _ (t .key) refl (u .in-key) (omega arith))
-    (col (p .size) _ (t .size) (length-changed _ _ (t .size)) (u .in-size) (omega arith))
-    (col (map (λ v. v + (at (t .level) r + 1)) (p .level)) _ (t .level) refl (rw length-map (u .in-level))
-    (omega arith))
-    (col (p .kind) _ (t .kind) refl (u .in-kind) (omega arith))
-    (col (p .name) _ (t .name) refl (u .in-name) (omega arith))
-after-shortest (deletion k) t f =
+    record {
+      key = col (p .key) _ (t .key) refl (u .in-key) (omega arith);
+      size = col (p .size) _ (t .size) (length-changed _ _ (t .size)) (u .in-size) (omega arith);
+      level = col (map (λ v. v + (at (t .level) r + 1)) (p .level)) _ (t .level) refl (rw length-map (u .in-level))
+          (omega arith);
+      kind = col (p .kind) _ (t .kind) refl (u .in-kind) (omega arith);
+      name = col (p .name) _ (t .name) refl (u .in-name) (omega arith);
+    }
+after-lengths (deletion k) t f =
     let r : ℕ = rowNamed (deletion k) t in
     let by : ℕ = at (t .size) r + 1 in
     let u : InUse t = f .sound .in-use in
     let col : (zs xs : List ℕ) → length zs ≡ length xs → t .count ≤ length xs
     → length (closed r (t .count) by zs) ≡ length xs =
     λ zs xs e a. length-closed r (t .count) by zs (gap-fits t (f .sound) r (f .found)) (omega arith) ∙ e in
-    shortest-same (tableAfter (deletion k) t) t (col _ (t .key) refl (u .in-key))
-    (col _ (t .size) (length-changed _ _ (t .size)) (u .in-size))
-    (col _ (t .level) refl (u .in-level)) (col _ (t .kind) refl (u .in-kind)) (col _ (t .name) refl (u .in-name))
-after-shortest (renaming k m) t f =
-    shortest-same (tableAfter (renaming k m) t) t refl refl refl refl
-    (length-set (t .name) (rowNamed (renaming k m) t) m)
+    record {
+      key = col _ (t .key) refl (u .in-key);
+      size = col _ (t .size) (length-changed _ _ (t .size)) (u .in-size);
+      level = col _ (t .level) refl (u .in-level);
+      kind = col _ (t .kind) refl (u .in-kind);
+      name = col _ (t .name) refl (u .in-name);
+    }
+after-lengths (renaming k m) t f = record {
+  key = refl;
+  size = refl;
+  level = refl;
+  kind = refl;
+  name = length-set (t .name) (rowNamed (renaming k m) t) m;
+}
+
+-- so is the shortest
+pub after-shortest : (a : Act) (t : Table) → Fits a t → shortest (tableAfter a t) ≡ shortest t
+unfolding shortest
+after-shortest a t f =
+    let s : SameLengths t (tableAfter a t) = after-lengths a t f in
+    ap₂ min (s .key) (ap₂ min (s .size) (ap₂ min (s .level) (ap₂ min (s .kind) (s .name))))

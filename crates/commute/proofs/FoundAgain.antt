@@ -2,7 +2,7 @@
 -- at the row that the answer's first moved row and move say: `found-again`. Its row holds what it held, but for the
 -- sizes of exactly the parent and its ancestors, which change by the number of rows that came or went, and for the name
 -- of a renamed row: `row-again`, and by the definitions `after-row`. Assumes nothing.
-use mathlib.Core.Path.{_≡_, refl, sym, ap, subst, subst₂, _∙_}
+use mathlib.Core.Path.{_≡_, refl, sym, ap, subst, _∙_}
 use mathlib.Core.Bool.{Bool, true, false, cond, _||_, true≢false}
 use mathlib.Core.List.{List}
 use Prim.Native.Nat.{ℕ, zero, suc, _+_, _-_, _<_, _≤_}
@@ -29,7 +29,7 @@ use Rattle.tree.proofs.EditLaws.{rowIn, row-key, gap-fits}
 use Rattle.tree.proofs.EditSizes.{ancestor-larger}
 use Rattle.commute.specs.Act.{Act, insertion, deletion, renaming, outcome, Accepted, rowNamed, tableAfter, doneOf}
 use Rattle.commute.specs.Again.{movedTo, goes, Again}
-use Rattle.commute.proofs.ActLaws.{Fits, accepted-fits, accepted-answer, accepted-table, after-sound}
+use Rattle.commute.proofs.ActLaws.{Fits, accepted-fits, accepted-table, accepted-has, after-sound}
 
 -- after an accepted edit the table is sound
 pub edited-sound : (a : Act) (t : Table) → Accepted (outcome a t) → Sound (outcome a t .table)
@@ -201,10 +201,7 @@ after-row (renaming k m) t f i l g =
 pub row-again : (a : Act) (t : Table) (d : Done) → outcome a t .answer ≡ Made d
     → (i : ℕ) → i < t .count → goes a t i ≡ false → (w : ℕ) × Again a d t (outcome a t .table) i w
 row-again a t d e i l g =
-    let h : Accepted (outcome a t) = (d, e) in
-    let q : Made (doneOf a t) ≡ Made d = sym (accepted-answer a t h) ∙ e in
-    subst₂ (λ (d : Done) (u : Table). (w : ℕ) × Again a d t u i w) (cc) (sym (accepted-table a t h))
-    (after-row a t (accepted-fits a t h) i l g)
+    accepted-has (λ (d : Done) (u : Table). (w : ℕ) × Again a d t u i w) a t d e (λ f. after-row a t f i l g)
 
 -- ── the key again ──
 -- the row found for a key of a sound table has it

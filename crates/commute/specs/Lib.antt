@@ -1,3 +1,4 @@
 pub mod Act
 pub mod Independent
 pub mod Again
+pub mod Spare

@@ -1,6 +1,7 @@
 -- The columns of an edited table: 01, "Finding and editing by key". Where a row stands afterwards: `opened-stays`,
--- `opened-moves`, `closed-stays`, `closed-moves`; what it holds where sizes change: `changed-at`, `changed-take`,
--- `changed-after`. Rows in use and what follows them: `opened-is`, `closed-is`.
+-- `opened-moves`, `closed-stays`, `closed-moves`; the rows that came in, `opened-new`, the freed ones, `closed-freed`,
+-- and the spare ones, `opened-spare`, `closed-spare`; what a row holds where sizes change: `changed-at`,
+-- `changed-not`, `changed-take`, `changed-after`. Rows in use and what follows them: `opened-is`, `closed-is`.
 -- No column changes its length: `length-opened`, `length-closed`, `length-changed`. Assumes nothing.
 use mathlib.Core.Path.{_≡_, refl, sym, ap, ap₂, _∙_}
 use mathlib.Core.Bool.{Bool, false, cond}
@@ -9,7 +10,7 @@ use Prim.Native.Nat.{ℕ, zero, suc, _+_, _-_, _<_, _≤_}
 use native.Mathlib.Nat.{le-of-suc-le-suc, not-suc-le-zero}
 use native.Mathlib.Omega.{arith}
 use lib.ListN.{length, take, drop, replicate, length-append, length-take, length-drop, length-replicate}
-use lib.ListN.{List·getD-append}
+use lib.ListN.{List·getD-append, getD-replicate}
 use lib.Seq.{take-take, take-add, drop-at, length-take-le, getD-take, getD-drop, getD-append-add}
 use Rattle.tree.specs.Table.{at}
 use Rattle.tree.specs.Edit.{opened, closed, changed}
@@ -18,6 +19,10 @@ use Rattle.tree.specs.Edit.{opened, closed, changed}
 at-past : (a b : List ℕ) (n i : ℕ) → length a + i ≡ n → at (a ++ b) n ≡ at b i
 at-past a b n i e = ap (at (a ++ b)) (sym e) ∙ getD-append-add a b i 0
 
+-- what is left of a list after n, read at a place
+at-rest : (n : ℕ) (xs : List ℕ) (i : ℕ) → n ≤ i → at (drop n xs) (i - n) ≡ at xs i
+at-rest n xs i h = getD-drop n xs (i - n) 0 ∙ ap (at xs) (let z : n + (i - n) ≡ i = omega arith in z)
+
 -- a part from g to n of a list of at least n, read at a place
 at-part : (g n : ℕ) (xs ys : List ℕ) (i : ℕ) → g ≤ i → i < n → n ≤ length xs
     → at (take (n - g) (drop g xs) ++ ys) (i - g) ≡ at xs i
@@ -25,8 +30,7 @@ at-part g n xs ys i h l m =
     let s : i - g < length (take (n - g) (drop g xs)) = simp (length-take, length-drop) (omega arith) in
     let q : i - g < n - g = omega arith in
     List·getD-append (take (n - g) (drop g xs)) ys 0 (i - g) s
-    ∙ getD-take (n - g) (drop g xs) (i - g) 0 q ∙ getD-drop g xs (i - g) 0
-    ∙ ap (at xs) (let z : g + (i - g) ≡ i = omega arith in z)
+    ∙ getD-take (n - g) (drop g xs) (i - g) 0 q ∙ at-rest g xs i h
 
 -- the same part is what is left of the first n
 drop-take : (g n : ℕ) (xs : List ℕ) → g ≤ n → n ≤ length xs → take (n - g) (drop g xs) ≡ drop g (take n xs)
@@ -52,6 +56,14 @@ opened-moves g n by piece xs i h l m p =
     ∙ at-past (take by piece) _ (by + (i - g)) (i - g) (omega (arith, length-take-le by piece p))
     ∙ at-part g n xs (drop (n + by) xs) i h l m
 
+-- the piece's rows stand from the gap on
+pub opened-new : (g n by : ℕ) (piece xs : List ℕ) (j : ℕ) → j < by → g ≤ length xs → by ≤ length piece
+    → at (opened g n by piece xs) (g + j) ≡ at piece j
+unfolding opened
+opened-new g n by piece xs j h l p =
+    at-past (take g xs) _ (g + j) j (omega (arith, length-take-le g xs l))
+    ∙ List·getD-append (take by piece) _ 0 j (rw (length-take-le by piece p) h) ∙ getD-take by piece j 0 h
+
 -- the rows in use, and the spare ones
 pub opened-is : (g n by : ℕ) (piece xs : List ℕ) → g ≤ n → n ≤ length xs
     → opened g n by piece xs ≡ (take g (take n xs) ++ (take by piece ++ drop g (take n xs))) ++ drop (n + by) xs
@@ -62,6 +74,15 @@ opened-is g n by piece xs h l =
     ∙ ap (λ (z : List ℕ). take g (take n xs) ++ z)
     (sym (append-assoc (take by piece) (drop g (take n xs)) (drop (n + by) xs)))
     ∙ sym (append-assoc (take g (take n xs)) (take by piece ++ drop g (take n xs)) (drop (n + by) xs))
+
+-- rows that stay spare hold what they held
+pub opened-spare : (g n by : ℕ) (piece xs : List ℕ) (i : ℕ) → g ≤ n → n ≤ length xs → by ≤ length piece → n + by ≤ i
+    → at (opened g n by piece xs) i ≡ at xs i
+opened-spare g n by piece xs i h l p m =
+    ap (λ (z : List ℕ). at z i) (opened-is g n by piece xs h l)
+    ∙ at-past (take g (take n xs) ++ (take by piece ++ drop g (take n xs))) (drop (n + by) xs) i (i - (n + by))
+    (simp (length-append, length-take, length-drop) (omega arith))
+    ∙ at-rest (n + by) xs i m
 
 -- the length stays
 pub length-opened : (g n by : ℕ) (piece xs : List ℕ) → g ≤ n → by ≤ length piece → n + by ≤ length xs
@@ -93,6 +114,29 @@ closed-is r n by xs h l =
     (drop-take (r + by) n xs h l)
     ∙ sym (append-assoc (take r (take n xs)) (drop (r + by) (take n xs)) (replicate by 0 ++ drop n xs))
 
+module _ (r n by : ℕ) (xs : List ℕ) (h : r + by ≤ n) (l : n ≤ length xs) where
+  -- what follows the rows in use
+  closed-past : (i : ℕ) → n - by ≤ i → at (closed r n by xs) i ≡ at (replicate by 0 ++ drop n xs) (i - (n - by))
+  closed-past i m =
+      ap (λ (z : List ℕ). at z i) (closed-is r n by xs h l)
+      ∙ at-past (take r (take n xs) ++ drop (r + by) (take n xs)) (replicate by 0 ++ drop n xs) i (i - (n - by))
+      (simp (length-append, length-take, length-drop) (omega arith))
+
+  -- the freed rows are zero
+  pub closed-freed : (i : ℕ) → n - by ≤ i → i < n → at (closed r n by xs) i ≡ 0
+  closed-freed i m q =
+      let z : i - (n - by) < by = omega arith in
+      closed-past i m ∙ List·getD-append (replicate by 0) (drop n xs) 0 (i - (n - by)) (rw length-replicate z)
+      ∙ getD-replicate by (i - (n - by)) 0 0 z
+
+  -- rows that were spare hold what they held
+  pub closed-spare : (i : ℕ) → n ≤ i → at (closed r n by xs) i ≡ at xs i
+  closed-spare i m =
+      closed-past i (omega arith)
+      ∙ at-past (replicate by 0) (drop n xs) (i - (n - by)) (i - n)
+      (rw length-replicate (omega arith))
+      ∙ at-rest n xs i m
+
 -- the length stays
 pub length-closed : (r n by : ℕ) (xs : List ℕ) → r + by ≤ n → n ≤ length xs → length (closed r n by xs) ≡ length xs
 unfolding closed
@@ -106,6 +150,13 @@ unfolding changed
 changed-at f g [] i l = absurd (not-suc-le-zero l)
 changed-at f g (x ∷ xs) zero l = refl
 changed-at f g (x ∷ xs) (suc i) l = changed-at (λ i. f (suc i)) g xs i (le-of-suc-le-suc l)
+
+-- nothing changes at a row that does not pass, spare rows too
+pub changed-not : (f : ℕ → Bool) (g : ℕ → ℕ) (xs : List ℕ) (i : ℕ) → f i ≡ false → at (changed f g xs) i ≡ at xs i
+unfolding changed
+changed-not f g [] i e = refl
+changed-not f g (x ∷ xs) zero e = ap (λ (b : Bool). cond b (g x) x) e
+changed-not f g (x ∷ xs) (suc i) e = changed-not (λ i. f (suc i)) g xs i e
 
 -- to the first n rows
 pub changed-take : (f : ℕ → Bool) (g : ℕ → ℕ) (n : ℕ) (xs : List ℕ) → take n (changed f g xs) ≡ changed f g (take n xs)
