@@ -1,7 +1,7 @@
--- An edit is accepted exactly if no refusal applies, `accepted-fits`, `fits-accepted`. An accepted edit's answer and
--- table are those that the definitions give, `accepted-answer`, `accepted-table`, `accepted-has`. The table after it is
--- sound, `after-sound`, has the edited nodes, `after-nodes`, at most as many rows more as came in, `after-count`, and
--- columns as long as before, `after-lengths`, `after-shortest`. Assumes nothing.
+-- An edit is accepted exactly if no refusal applies, `accepted-fits`, `fits-accepted`. The answer and the table of an
+-- accepted edit are those that the definitions give, `accepted-answer`, `accepted-table`, `accepted-has`. The table
+-- after it is sound, `after-sound`, has the edited nodes, `after-nodes`, at most as many rows more as came in,
+-- `after-count`, and columns as long as before, `after-lengths`, `after-shortest`. Assumes nothing.
 use mathlib.Core.Path.{_≡_, refl, sym, ap, ap₂, subst, subst₂, _∙_}
 use mathlib.Core.List.{List, map}
 use Prim.Native.Nat.{ℕ, _+_, _≤_, min}

@@ -1,5 +1,6 @@
 pub mod ActLaws
 pub mod FoundAgain
+pub mod GoneLaws
 pub mod SpareLaws
 pub mod TurnLaws
 pub mod Demand3

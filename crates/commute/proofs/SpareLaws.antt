@@ -1,6 +1,6 @@
--- After an accepted edit: a row that was spare and still is holds what it held in all five columns, `spare-stays`; a row
--- that was in use and no longer is, from the new count up to the old one, is zero in all five, `freed-zero`; and every
--- column is as long as it was, `lengths-stay`. Assumes nothing.
+-- After an accepted edit a row that was spare and still is holds what it held in all five columns: `spare-stays`. The
+-- freed rows, from the new count up to the old one, are zero in all five: `freed-zero`. Every column is as long as it
+-- was: `lengths-stay`. Assumes nothing.
 use mathlib.Core.Path.{_≡_, refl, _∙_}
 use mathlib.Core.Bool.{_||_}
 use mathlib.Core.List.{List}

@@ -1,5 +1,5 @@
 -- When an edit is accepted, in plain words: `insert-passes`, `delete-passes`, `rename-passes`, `edit-passes`.
--- Tests that fail, `neither`, `neither-of`; a search that finds nothing, `none-below`.
+-- Tests that fail, `neither`, `neither-of`; a search that finds nothing, `none-below`; a key that no row has, `no-key`.
 -- Assumes nothing.
 use mathlib.Core.Path.{_≡_, refl, ap, _∙_}
 use mathlib.Core.Logic.{_⊎_, inl, inr, ⊎-elim, _↔_}
@@ -43,7 +43,7 @@ abbrev pub NoKey : Table → ℕ → Type 0
 NoKey t x = (j : ℕ) → j < t .count → at (t .key) j ≡ x → ⊥
 
 -- exactly then it is not found
-no-key : (t : Table) (x : ℕ) → (ltb (rowOf (t .key) (t .count) x) (t .count) ≡ false) ↔ NoKey t x
+pub no-key : (t : Table) (x : ℕ) → (ltb (rowOf (t .key) (t .count) x) (t .count) ≡ false) ↔ NoKey t x
 unfolding rowOf
 no-key t x = (
   λ e j l. eqb-false _ _ (none-below (λ k. eqb (at (t .key) k) x) (t .count) .0 e j l),
