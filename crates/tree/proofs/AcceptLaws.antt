@@ -1,6 +1,6 @@
 -- When an edit is accepted, in plain words: `insert-passes`, `delete-passes`, `rename-passes`, `edit-passes`.
--- Tests that fail, `neither`, `neither-of`; a search that finds nothing, `none-below`; a key that no row has, `no-key`.
--- Assumes nothing.
+-- Tests that fail, `neither`, `neither-of`; a search that finds nothing, `none-below`; a key that is not found,
+-- `no-key`. Assumes nothing.
 use mathlib.Core.Path.{_≡_, refl, ap, _∙_}
 use mathlib.Core.Logic.{_⊎_, inl, inr, ⊎-elim, _↔_}
 use mathlib.Core.Bool.{Bool, true, false, not, _||_, true≢false}
