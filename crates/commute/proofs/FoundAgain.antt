@@ -8,8 +8,8 @@ use mathlib.Core.List.{List}
 use Prim.Native.Nat.{ℕ, zero, suc, _+_, _-_, _<_, _≤_}
 use native.Mathlib.Decide.{decLt, ℕ-discrete}
 use native.Mathlib.Omega.{arith}
-use borrow.Author.Tests.{ltb-true, lt-ltb, le-ltb, eqb-false, eq-eqb, ne-eqb}
-use lib.Dec.{ltb, eqb}
+use borrow.Author.Tests.{lt-ltb, le-ltb, eqb-false, eq-eqb, ne-eqb}
+use lib.Dec.{eqb}
 use lib.IntN.{ℤ, pos, _+ℤ_}
 use lib.ListN.{length, length-map}
 use lib.Seq.{getD-set-same, getD-set-other}
@@ -18,14 +18,15 @@ use Rattle.tree.specs.Rules.{InUse, Sound}
 use Rattle.tree.specs.Tree.{ancestor}
 use Rattle.tree.specs.Edit.{opened, closed, gapOf, inserted, deleted, renamed, minus, insertDone, deleteDone}
 use Rattle.tree.specs.Edit.{renameDone}
-use Rattle.tree.specs.Outcome.{foundIf, located, findOutcome}
+use Rattle.tree.specs.Outcome.{findOutcome}
 use Rattle.tree.specs.declared.Done.{Done}
 use Rattle.tree.specs.declared.Edited.the-variants.{Made}
-use Rattle.tree.specs.declared.Found.the-variants.{At, Refused as NotFound}
-use Rattle.tree.proofs.SoundLaws.{table-passes, sound-descendants, find-at}
+use Rattle.tree.specs.declared.Found.the-variants.{At}
+use Rattle.tree.proofs.SoundLaws.{sound-descendants}
 use Rattle.tree.proofs.AcceptLaws.{insert-passes, neither}
 use Rattle.tree.proofs.ColumnLaws.{opened-stays, opened-moves, closed-stays, closed-moves, changed-at, length-changed}
-use Rattle.tree.proofs.EditLaws.{rowIn, row-key, gap-fits}
+use Rattle.tree.proofs.EditLaws.{gap-fits}
+use Rattle.tree.proofs.FindLaws.{find-row, find-found}
 use Rattle.tree.proofs.EditSizes.{ancestor-larger}
 use Rattle.commute.specs.Act.{Act, insertion, deletion, renaming, outcome, Accepted, rowNamed, tableAfter, doneOf}
 use Rattle.commute.specs.Again.{movedTo, goes, Again}
@@ -204,35 +205,17 @@ row-again a t d e i l g =
     accepted-has (λ (d : Done) (u : Table). (w : ℕ) × Again a d t u i w) a t d e (λ f. after-row a t f i l g)
 
 -- ── the key again ──
--- the row found for a key of a sound table has it
-found-key : (t : Table) → Sound t → (k i : ℕ) → findOutcome t k ≡ At i → (i < t .count) × (at (t .key) i ≡ k)
-unfolding findOutcome foundIf located
-found-key t s k i e = go (ltb (rowIn t k) (t .count)) refl (rw (table-passes t .1 s) at e)
-  where
-    go : (b : Bool) → ltb (rowIn t k) (t .count) ≡ b → cond b (At (rowIn t k)) (NotFound 9 0) ≡ At i
-        → (i < t .count) × (at (t .key) i ≡ k)
-    go true q h =
-        let l : rowIn t k < t .count = ltb-true _ _ q in
-        let z : rowIn t k ≡ i = cc in
-        subst (λ (j : ℕ). (j < t .count) × (at (t .key) j ≡ k)) z (l, row-key t k l)
-    go false q h = let z : _≡_ {A = ℕ} 0 1 = cc in absurd (omega arith)
-
--- a row of a sound table is found for its key
-key-found : (t : Table) → Sound t → (i : ℕ) → i < t .count → findOutcome t (at (t .key) i) ≡ At i
-unfolding findOutcome foundIf located
-key-found t s i l = rw (table-passes t .1 s, find-at t s i l, lt-ltb i (t .count) l)
-
 -- each key that was not deleted is found again at the row that the answer's first moved row and move say
 pub found-again : (a : Act) (t : Table) (d : Done) → outcome a t .answer ≡ Made d
     → (k i : ℕ) → findOutcome t k ≡ At i → goes a t i ≡ false
     → (w : ℕ) × (pos w ≡ movedTo d i) × (findOutcome (outcome a t .table) k ≡ At w)
 found-again a t d e k i q g =
     let h : Accepted (outcome a t) = (d, e) in
-    let o = found-key t (accepted-fits a t h .sound) k i q in
-    let (w, r) = row-again a t d e i (o .0) g in
-    let x : at (outcome a t .table .key) w ≡ k = r .key ∙ o .1 in (
+    let o = find-found t k i .0 q in
+    let (w, r) = row-again a t d e i (o .1) g in
+    let x : at (outcome a t .table .key) w ≡ k = r .key ∙ o .2 in (
       w,
       r .moved,
       ap (findOutcome (outcome a t .table)) (sym x)
-          ∙ key-found (outcome a t .table) (edited-sound a t h) w (r .in-use),
+          ∙ find-row (outcome a t .table) (edited-sound a t h) w (r .in-use),
     )

@@ -15,11 +15,12 @@ use Rattle.tree.specs.Axis.{axisOk}
 use Rattle.tree.specs.Test.{testOk}
 use Rattle.tree.specs.Pairs.{Pair, pairsOf, withRole, distinct}
 use Rattle.tree.specs.Step.{Ask, stepList, linesOf}
+use Rattle.tree.specs.StepRules.{PairsFit}
 use Rattle.tree.specs.Refusal.{given, next, askCheck}
 use Rattle.tree.specs.declared.Checked.the-variants.{Passed}
 use Rattle.tree.proofs.SearchLaws.{gather-zero, gather-suc}
 use Rattle.tree.proofs.SoundLaws.{sound-shape, next-passed, given-passed}
-use Rattle.tree.proofs.RoleLaws.{PairsFit, pair-passes}
+use Rattle.tree.proofs.RoleLaws.{pair-passes}
 use Rattle.axis.specs.Want.{wantedKind, fits}
 use Rattle.axis.specs.Reach.{oneRole, Wrote}
 use Rattle.axis.specs.RowSet.{Blank}

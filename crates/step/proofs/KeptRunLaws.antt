@@ -9,10 +9,10 @@ use Rattle.tree.specs.Table.{at}
 use Rattle.tree.specs.Rules.{Shape}
 use Rattle.tree.specs.Pairs.{Pair, pairsOf, withRole}
 use Rattle.tree.specs.Kept.{remaining, keptCount}
+use Rattle.tree.specs.StepRules.{PairsFit}
 use Rattle.tree.specs.Refusal.{pairCheck}
 use Rattle.tree.specs.declared.Checked.the-variants.{Passed}
 use Rattle.tree.proofs.KeptLaws.{kept-split}
-use Rattle.tree.proofs.RoleLaws.{PairsFit}
 use Rattle.step.specs.KeptOf.{keptOf, KeptIn}
 use Rattle.step.specs.Runs.{pairsFrom, part, RunEnd}
 use Rattle.step.proofs.RunLaws.{pairs-from-run, rest-above, run-contexts}

@@ -4,9 +4,7 @@
 use mathlib.Core.Path.{_≡_, refl, sym, ap, ap₂, _∙_}
 use mathlib.Core.Bool.{Bool}
 use mathlib.Core.List.{List}
-use Prim.Native.Nat.{ℕ, _<_, _≤_, min}
-use native.Mathlib.Omega.{arith}
-use borrow.Author.Tests.{ltb-false}
+use Prim.Native.Nat.{ℕ}
 use lib.ListN.{length}
 use Rattle.tree.specs.Table.{Table}
 use Rattle.tree.specs.Pairs.{Pair, pairsOf, rolesOf, rowsOf}
@@ -18,7 +16,8 @@ use Rattle.tree.specs.declared.Checked.{Checked}
 use Rattle.tree.specs.declared.Checked.the-variants.{Passed, Refused}
 use Rattle.tree.specs.declared.Stepped.{Stepped}
 use Rattle.tree.specs.declared.Stepped.the-variants.{Listed, Refused as NotListed}
-use Rattle.tree.proofs.SoundLaws.{next-passed, given-passed, table-passes}
+use Rattle.tree.proofs.SoundLaws.{next-passed, table-passes}
+use Rattle.tree.proofs.StepAccept.{room-passes}
 use Rattle.step.specs.Steps.{Fits, Lists}
 use Rattle.step.specs.Leaves.{Leaves, Known}
 use Rattle.step.proofs.WrittenLaws.{length-rows}
@@ -75,10 +74,7 @@ module _ (t : Table) (a : Ask) (role row outRole outRow : List ℕ) where
 
   -- there is room in both columns
   pub room-fits : roomCheck (length lines) outRole outRow ≡ Passed → Fits t a role row outRole outRow
-  unfolding roomCheck
-  room-fits e =
-      let l : length lines ≤ min (length outRole) (length outRow) = ltb-false _ _ (given-passed _ _ _ e) in
-      record { roles = omega arith; rows = omega arith }
+  room-fits e = let h = room-passes (length lines) outRole outRow .0 e in record { roles = h .0; rows = h .1 }
 
   pub leaves-listed : {r kept : ℕ} {newRole newRow : List ℕ} → Known t a role row
       → roomCheck (length lines) outRole outRow ≡ Passed

@@ -1,7 +1,6 @@
 pub mod RunLaws
 pub mod CountedLaws
 pub mod WrittenLaws
-pub mod AskLaws
 pub mod LeavesLaws
 pub mod KeptOfLaws
 pub mod KeptPassLaws

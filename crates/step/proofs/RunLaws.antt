@@ -19,12 +19,13 @@ use Rattle.tree.specs.Axis.{onAxis}
 use Rattle.tree.specs.Test.{testOk, passes}
 use Rattle.tree.specs.Pairs.{Pair, pair, pairsOf, withRole, some, distinct, before, outOfOrder}
 use Rattle.tree.specs.Step.{Ask, listed, reached, linesOf, stepList}
+use Rattle.tree.specs.StepRules.{PairsFit}
 use Rattle.tree.proofs.SearchLaws.{gather-ext}
 use Rattle.tree.proofs.SoundLaws.{both-of, either-left, either-right}
 use Rattle.tree.proofs.AcceptLaws.{neither}
 use Rattle.tree.proofs.StepLaws.{In, Ordered}
 use Rattle.tree.proofs.SplitLaws.{RolesBelow, step-split}
-use Rattle.tree.proofs.RoleLaws.{Level, all-above, level-ordered, in-order, PairsFit}
+use Rattle.tree.proofs.RoleLaws.{Level, all-above, level-ordered, in-order}
 use Rattle.axis.specs.Want.{wantedKind, fits}
 use Rattle.axis.specs.Reach.{anyOn, oneRole, Contexts}
 use Rattle.step.specs.Runs.{pairsFrom, part, RunEnd}

@@ -6,6 +6,8 @@ pub mod LevelLaws
 pub mod StepLaws
 pub mod AscendLaws
 pub mod RoleLaws
+pub mod AskLaws
+pub mod StepAccept
 pub mod SplitLaws
 pub mod LowestLaws
 pub mod KeptLaws
@@ -19,6 +21,7 @@ pub mod Commute
 pub mod SizeLaws
 pub mod KeepLaws
 pub mod EditLaws
+pub mod FindLaws
 pub mod EditSizes
 pub mod EditSound
 pub mod FarmCalls

@@ -1,7 +1,7 @@
 -- Soundness in plain words, and that the executable definitions say the same: `row-ok` for a row, `table-passes` for
--- a table. Then what follows of levels and sizes, `shape-..`, and of a sound table, `sound-..`, `find-at`.
--- Assumes nothing.
-use mathlib.Core.Path.{_≡_, refl, ap}
+-- a table; of two checks in a row, `next-passed`, `next-first`. Then what follows of levels and sizes, `shape-..`, and
+-- of a sound table, `sound-..`, `find-at`. Assumes nothing.
+use mathlib.Core.Path.{_≡_, refl, sym, ap}
 use mathlib.Core.Logic.{_⊎_, inl, inr, ⊎-elim, _↔_}
 use mathlib.Core.Bool.{Bool, true, false, cond, not, _&&_, _||_, and-eq-true-iff}
 use mathlib.Core.List.{List}
@@ -154,14 +154,10 @@ row-ok t i = (there, back)
   where
     there : rowOk t i ≡ true → SoundRow t i
     there e =
-        let L = levelOk (t .level) i in
-        let S = eqb (at (t .size) i) (sizeOf (t .level) (t .count) i) in
-        let K = kindOk (at (t .kind) i) (at (t .size) i) i in
-        let N = nameOk (at (t .kind) i) (at (t .name) i) in
-        let a = both (L && S && K && N) (keyOk (t .key) i) e in
-        let b = both (L && S && K) N (a .0) in
-        let d = both (L && S) K (b .0) in
-        let g = both L S (d .0) in
+        let a = both _ _ e in
+        let b = both _ _ (a .0) in
+        let d = both _ _ (b .0) in
+        let g = both _ _ (d .0) in
         record {
           levels = level-there (t .level) i (g .0);
           sizes = eqb-true _ _ (g .1);
@@ -222,6 +218,13 @@ pub next-passed : (c d : Checked) → (next c d ≡ Passed) ↔ ((c ≡ Passed) 
 unfolding next
 next-passed Passed d = (λ e. (refl, e), λ h. h .1)
 next-passed (Refused m p) d = (λ e. absurd (refused-passed e), λ h. h .0)
+
+-- a refusal comes from the first check, or it passed and the second gave it
+pub next-first : (c d : Checked) (m p : ℕ)
+    → (next c d ≡ Refused m p) ↔ ((c ≡ Refused m p) ⊎ ((c ≡ Passed) × (d ≡ Refused m p)))
+unfolding next
+next-first Passed d m p = (λ e. inr (refl, e), ⊎-elim (λ e. absurd (refused-passed (sym e))) (λ h. h .1))
+next-first (Refused n q) d m p = (λ e. inl e, ⊎-elim (λ e. e) (λ h. absurd (refused-passed (h .0))))
 
 -- the table passes exactly if its count fits and every row is sound
 pub table-passes : (t : Table) → (tableCheck t ≡ Passed) ↔ Sound t

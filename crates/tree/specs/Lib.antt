@@ -7,6 +7,7 @@ pub mod Axis
 pub mod Test
 pub mod Pairs
 pub mod Step
+pub mod StepRules
 pub mod Kept
 pub mod Edit
 pub mod Refusal
