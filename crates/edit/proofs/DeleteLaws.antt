@@ -18,12 +18,12 @@ use Rattle.tree.proofs.EditLaws.{gap-fits}
 use Rattle.tree.proofs.ColumnLaws.{length-changed}
 use Rattle.edit.specs.Leaves.{Leaves}
 use Rattle.edit.specs.AtRow.{Known, deleteAt}
-use Rattle.edit.specs.Moved.{answered}
-use Rattle.edit.specs.Part.{pulled, cleared}
-use Rattle.edit.specs.Reach.{lowered, Lowerable}
-use Rattle.edit.proofs.MoveLaws.{pulled-cleared}
+use Rattle.shift.specs.Moved.{answered}
+use Rattle.shift.specs.Part.{pulled, cleared}
+use Rattle.shift.specs.Reach.{lowered, Lowerable}
+use Rattle.shift.proofs.MoveLaws.{pulled-cleared}
 use Rattle.edit.proofs.OutcomeLaws.{leaves, own-refused, own-passed, given-is}
-use Rattle.edit.proofs.SizePassLaws.{lowered-is, lowerable}
+use Rattle.shift.proofs.SizePassLaws.{lowered-is, lowerable}
 
 module _ (t : Table) (r : ℕ) where
   -- row 0 stays

@@ -16,10 +16,10 @@ use Rattle.tree.proofs.AcceptLaws.{InsertFits, insert-passes}
 use Rattle.tree.proofs.EditLaws.{gap-fits}
 use Rattle.edit.specs.Leaves.{Leaves}
 use Rattle.edit.specs.AtRow.{Fitting, insertAt}
-use Rattle.edit.specs.Moved.{answered}
-use Rattle.edit.specs.Reach.{raised, Raisable}
+use Rattle.shift.specs.Moved.{answered}
+use Rattle.shift.specs.Reach.{raised, Raisable}
 use Rattle.edit.proofs.OutcomeLaws.{leaves, own-passed}
-use Rattle.edit.proofs.SizePassLaws.{raised-is, raisable}
+use Rattle.shift.proofs.SizePassLaws.{raised-is, raisable}
 
 -- what the passes over the columns ask for
 pub record Room (t : Table) (r : ℕ) (p : Table) : Type 0 where

@@ -2,10 +2,10 @@
 ghost use Rattle.tree.specs.Table.{tableOf};
 ghost use Rattle.edit.specs.Leaves.{Leaves};
 ghost use Rattle.edit.specs.AtRow.{Known, deleteAt};
-use crate::moved;
-use crate::mover::clear_column;
-use crate::mover::close_column;
-use crate::sizes;
+use shift::moved;
+use shift::mover::clear_column;
+use shift::mover::close_column;
+use shift::sizes;
 use tree::Edited;
 
 // The row and its descendants go, or refusal 15. Later rows close up in all columns, the freed rows are zero, and the

@@ -9,10 +9,10 @@ ghost use Rattle.tree.specs.Table.{tableOf, at, shortest};
 ghost use Rattle.tree.specs.Refusal.{badPiece, insertCheck};
 ghost use Rattle.edit.specs.Leaves.{Leaves};
 ghost use Rattle.edit.specs.AtRow.{Known, Fitting, insertAt};
-use crate::moved;
-use crate::mover::open_column;
-use crate::mover::open_column_raised;
-use crate::sizes;
+use shift::moved;
+use shift::mover::open_column;
+use shift::mover::open_column_raised;
+use shift::sizes;
 use tree::Checked;
 use tree::Edited;
 use tree::logic::either;
@@ -105,7 +105,7 @@ fn check_piece(
     if too_deep(p_level, p_count, level[row] + 1) {
         return Checked::Refused(12, 0);
     }
-    let clash = table::keys::first_clash(key, count, p_key, p_count);
+    let clash = keys::first_clash(key, count, p_key, p_count);
     if clash < p_count {
         return Checked::Refused(13, clash);
     }

@@ -4,9 +4,6 @@ ghost use Rattle.tree.specs.Table.{tableOf};
 ghost use Rattle.tree.specs.Outcome.{insertOutcome, deleteOutcome, renameOutcome};
 ghost use Rattle.edit.specs.Leaves.{Leaves};
 
-mod mover; // mover.rt: rows that move in one column
-mod sizes; // sizes.rt: the sizes of the rows before an edited row
-mod moved; // moved.rt: the answer, with its signed move
 pub mod renaming; // renaming.rt: a rename at a row
 pub mod deletion; // deletion.rt: a deletion at a row
 pub mod insertion; // insertion.rt: an insertion at a row

@@ -1,4 +1,3 @@
-pub mod KeyLaws
 pub mod OpenLaws
 pub mod PairLaws
 pub mod OnlyLaws

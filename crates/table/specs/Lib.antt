@@ -1,4 +1,3 @@
 pub mod First
-pub mod Chain
 pub mod Open
 pub mod Places

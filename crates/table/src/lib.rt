@@ -9,7 +9,6 @@ ghost use Rattle.tree.specs.Outcome.{checkOutcome, findOutcome, located};
 pub mod rows; // rows.rt: the rules of a row, and the least row that breaks one
 mod pass; // pass.rt: all rows in one pass
 pub mod pairs; // pairs.rt: the pairs of role and row
-pub mod keys; // keys.rt: the row of a key, and the least row whose key is bad
 
 use tree::Checked;
 use tree::Found;

@@ -207,6 +207,6 @@ pub(crate) fn first_bad(
 {
     smaller(
         first_rest(key, size, level, kind, name, count),
-        crate::keys::first_key(key, count),
+        keys::first_key(key, count),
     )
 }

@@ -2,7 +2,8 @@
 -- leasts. Assumes nothing.
 use mathlib.Core.Path.{sym, _∙_}
 use Rattle.tree.proofs.SearchLaws.{least-both}
-use Rattle.table.specs.First.{firstRest, firstKey}
+use Rattle.table.specs.First.{firstRest}
+use Rattle.keys.specs.First.{firstKey}
 use Rattle.tree.specs.Sound.{firstBad, rowOk}
 use borrow.Author.Needs.{needs}
 use Rattle.table.proofs.rows.first_bad.Statement.{statement}
