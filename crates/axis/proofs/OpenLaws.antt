@@ -88,7 +88,7 @@ module _ {size level : List ℕ} {n : ℕ} (s : Shape size level n) where
     P = at path (L - 1) + 1
 
     pub open-low : 0 < L
-    open-low = s .levels i less .later (omega (arith, o .next)) .0
+    open-low = s .levels i less .inner (omega (arith, o .next))
 
     pub open-high : L < 64
     open-high = omega (arith, s .levels i less .low)
@@ -97,7 +97,7 @@ module _ {size level : List ℕ} {n : ℕ} (s : Shape size level n) where
     level-step =
         let z : i - 1 ≡ o .prev = omega (arith, o .next) in
         let q : at level (i - 1) ≡ at level (o .prev) = ap (at level) z in
-        omega (arith, s .levels i less .later (omega (arith, o .next)) .1)
+        omega (arith, s .levels i less .step (omega (arith, o .next)))
 
     parent-open : lastAbove level (suc (L - 1)) i ≡ suc (at path (L - 1))
     parent-open = o .opens (L - 1) (omega (arith, open-low, level-step))

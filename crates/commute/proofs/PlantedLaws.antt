@@ -116,7 +116,7 @@ module _ (t : Table) (k : ℕ) (p : Table) (f : Fits (insertion k p) t) where
       ∙ after-planted (w - g) (omega arith) .level in
       last-under u (after-sound (insertion k p) t f) r g (omega arith) (omega arith) (omega arith)
       (omega (arith, raised g (omega arith) (omega arith), s .rows (g - g) (omega arith) .levels .root (omega arith)))
-      (λ w x y e. let l : 1 ≤ at (p .level) (w - g) = s .rows (w - g) (omega arith) .levels .later (omega arith) .0 in
+      (λ w x y e. let l : 1 ≤ at (p .level) (w - g) = s .rows (w - g) (omega arith) .levels .inner (omega arith) in
       omega (arith, raised w (omega arith) (omega arith)))
 
 -- each row of the piece stands from the first moved row on and holds what it held, its level raised

@@ -94,7 +94,7 @@ own-again (insertion k p) t u f s l v c n limit room =
 own-again (deletion k) t u f s l v c n limit room =
     let r : ℕ = rowNamed (deletion k) t in
     let z : rowNamed (deletion k) t ≡ 0 → ⊥ = delete-passes t r .0 (f .passes) in
-    let d : 1 ≤ at (t .level) r = f .sound .rows r (f .found) .levels .later (omega arith) .0 in
+    let d : 1 ≤ at (t .level) r = f .sound .rows r (f .found) .levels .inner (omega arith) in
     delete-passes u (rowNamed (deletion k) u) .1
     (λ e. let w : at (u .level) (rowNamed (deletion k) u) ≡ 0 = s .rows (rowNamed (deletion k) u) l .levels .root e in
     omega arith)

@@ -93,8 +93,12 @@ module _ (t : Table) (u : InUse t) where
         places = length-set ends 0 _ ∙ p;
         kept = λ j l. let z : j ≡ 0 = omega arith in rw z (record {
           levels =
-              level-back (t .level) 0
-              (record { root = λ _. root; later = λ q. absurd (omega arith); low = omega arith });
+              level-back (t .level) 0 (record {
+                root = λ _. root;
+                inner = λ q. absurd (omega arith);
+                step = λ q. absurd (omega arith);
+                low = omega arith;
+              });
           others = a .1;
         });
         sizes = λ j l. let z : j ≡ 0 = omega arith in inr (record {
@@ -126,7 +130,8 @@ module _ (t : Table) (u : InUse t) where
             (λ z. rw z (record {
               levels = level-back (t .level) i (record {
                 root = λ z. absurd (omega (arith, f .some));
-                later = λ _. (low, omega (arith, f .last));
+                inner = λ _. low;
+                step = λ _. omega (arith, f .last);
                 low = high;
               });
               others = a .1;

@@ -93,7 +93,7 @@ module _ (t : Table) (s : Sound t) (k : ℕ) (h : rowIn t k < t .count) where
         in-name = len (t .name) (u .in-name);
       })
       (subst Good (sym (nodes-deleted t s k h))
-      (good-edited del k (nodeAt t r) (row-found t k h .1) (nodes-sound t s) (s .rows r h .levels .later pos .0) tt))
+      (good-edited del k (nodeAt t r) (row-found t k h .1) (nodes-sound t s) (s .rows r h .levels .inner pos) tt))
       (size-deleted t s k h)
 
 -- after a renaming, which changes one row's name rule

@@ -95,7 +95,7 @@ bound-next t s i l = elim (decLe (at (t .kind) i) 1) [
   | yes h ↦
       let q : at (t .level) (suc i - 1) ≡ at (t .level) i =
       ap (at (t .level)) (let z : suc i - 1 ≡ i = omega arith in z) in
-      omega (arith, s .rows (suc i) l .levels .later (omega arith) .1, bound-inner (nodeAt t i) h)
+      omega (arith, s .rows (suc i) l .levels .step (omega arith), bound-inner (nodeAt t i) h)
   | no h ↦ elim (decLe (at (t .level) (suc i)) (at (t .level) i)) [
     | yes q ↦ omega (arith, bound-leaf (nodeAt t i) (omega arith))
     | no q ↦
@@ -119,7 +119,7 @@ pub nodes-sound : (t : Table) → Sound t → Good (nodesOf t)
 nodes-sound t s = record {
   steps = steps-rows (nodeAt t) (t .count) 0 own (λ l. omega (arith, s .rows 0 l .levels .root refl)) (bound-next t s);
   tree = tree-rows (nodeAt t) (t .count) (s .in-use .some)
-      (λ i l. s .rows (suc i) l .levels .later (omega arith) .0);
+      (λ i l. s .rows (suc i) l .levels .inner (omega arith));
   keys = distinct-rows (nodeAt t) (t .count) (λ i l. s .rows i l .keys .nonzero)
       (λ i j l m. s .rows i m .keys .unlike j l);
 }
@@ -221,7 +221,8 @@ sound-nodes t u g z = record { in-use = u; rows = row }
             root = λ e.
                 let q : at (t .level) i ≡ at (t .level) 0 = ap (at (t .level)) e in
                 omega (arith, rows-first (nodeAt t) (t .count) 0 (u .some) (g .steps));
-            later = later i l;
+            inner = λ p. later i l p .0;
+            step = λ p. later i l p .1;
             low = o .deep;
           };
           sizes = size-is i l;

@@ -55,13 +55,14 @@ level-there level i e = go (eqb i 0) refl e
     go true p h =
         let z : at level i ≡ 0 = eqb-true _ _ h in
         let y : i ≡ 0 = eqb-true _ _ p in
-        record { root = λ _. z; later = λ l. absurd (omega arith); low = omega arith }
+        record { root = λ _. z; inner = λ l. absurd (omega arith); step = λ l. absurd (omega arith); low = omega arith }
     go false p h =
         let a = both (leb 1 (at level i) && leb (at level i) 63) _ h in
         let b = both (leb 1 (at level i)) _ (a .0) in
         record {
           root = λ q. absurd (eqb-false _ _ p q);
-          later = λ l. (leb-true _ _ (b .0), leb-true _ _ (a .1));
+          inner = λ l. leb-true _ _ (b .0);
+          step = λ l. leb-true _ _ (a .1);
           low = leb-true _ _ (b .1);
         }
 
@@ -75,8 +76,9 @@ level-back level i h = go (eqb i 0) refl
     go true p = eq-eqb _ _ (h .root (eqb-true _ _ p))
     go false p =
         let q : i ≡ 0 → ⊥ = eqb-false _ _ p in
-        let l : (1 ≤ at level i) × (at level i ≤ at level (i - 1) + 1) = h .later (omega arith) in
-        both-of (both-of (le-leb _ _ (l .0)) (le-leb _ _ (h .low))) (le-leb _ _ (l .1))
+        both-of
+        (both-of (le-leb _ _ (h .inner (omega arith))) (le-leb _ _ (h .low)))
+        (le-leb _ _ (h .step (omega arith)))
 
 kind-there : (kind size i : ℕ) → kindOk kind size i ≡ true → KindRule kind size i
 unfolding kindOk
@@ -254,7 +256,7 @@ module _ {size level : List ℕ} {n : ℕ} (s : Shape size level n) where
   -- levels rise by at most one
   pub shape-steps : Steps level n
   shape-steps i h =
-      let a = s .levels (suc i) h .later (omega arith) .1 in
+      let a = s .levels (suc i) h .step (omega arith) in
       let q = ap (at level) (let z : suc i - 1 ≡ i = omega arith in z) in
       omega arith
 

@@ -11,7 +11,8 @@ use Rattle.tree.specs.Sound.{sizeOf}
 -- level 0 at row 0; later from 1 to one more than the row before has; never above 63
 pub record LevelRule (level : List ℕ) (i : ℕ) : Type 0 where
   pub root : i ≡ 0 → at level i ≡ 0
-  pub later : 0 < i → (1 ≤ at level i) × (at level i ≤ at level (i - 1) + 1)
+  pub inner : 0 < i → 1 ≤ at level i
+  pub step : 0 < i → at level i ≤ at level (i - 1) + 1
   pub low : at level i ≤ 63
 
 -- 0 to 4; a document only at row 0; texts, comments and processing instructions hold nothing
