@@ -38,7 +38,7 @@ abbrev pub Fits : Act → Table → Type 0
 Fits a t = EditFits t (keyOf a) (own a t)
 
 -- the three outcomes as one
-outcome-is : (a : Act) (t : Table)
+pub outcome-is : (a : Act) (t : Table)
     → outcome a t ≡ editIf (editCheck t (keyOf a) (own a t)) (doneOf a t) (tableAfter a t) t
 unfolding insertOutcome deleteOutcome renameOutcome
 outcome-is (insertion k p) t = refl

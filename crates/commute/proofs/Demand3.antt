@@ -5,9 +5,9 @@
 -- same in all five columns. They are those that the definitions give for the two in turn: `in-turn-is`.
 -- Spare rows may differ. Assumes nothing.
 use mathlib.Core.Path.{_≡_}
-use Rattle.tree.specs.Table.{Table}
+use Rattle.tree.specs.Table.{Table, SameRows}
 use Rattle.commute.specs.Act.{Act, Accepted, tableAfter}
-use Rattle.commute.specs.Independent.{Independent, inTurn, SameRows}
+use Rattle.commute.specs.Independent.{Independent, inTurn}
 use Rattle.commute.proofs.ActLaws.{Fits, fits-accepted, accepted-table, after-sound}
 use Rattle.commute.proofs.TurnLaws.{fits-after, nodes-same, same-rows, flipped}
 

@@ -4,7 +4,7 @@ use mathlib.Core.Path.{refl}
 use native.Mathlib.Nat.{not-suc-le-zero}
 use native.Mathlib.Omega.{arith}
 use Rattle.tree.specs.Search.{least, nearest}
-use Rattle.tree.specs.Table.{shortest, countOk}
+use Rattle.tree.specs.Table.{shortest, countOk, SameRows}
 use Rattle.tree.specs.Sound.{levelOk, runOf, sizeOf, sizeOk, kindOk, hasName, nameOk, rowOf, keyOk, restOk, rowOk}
 use Rattle.tree.specs.Sound.{firstBad}
 use Rattle.tree.specs.Tree.{parent, above, ancestor}
@@ -13,7 +13,7 @@ use Rattle.tree.specs.Refusal.{given, givenAt, next, tableCheck, keyCheck, badP
 use Rattle.tree.specs.Outcome.{editIf, editCheck, insertOutcome, deleteOutcome}
 use Rattle.tree.proofs.FarmCalls.{farm, leaf}
 use Rattle.commute.specs.Act.{insertion, deletion}
-use Rattle.commute.specs.Independent.{Independent, inTurn, SameRows}
+use Rattle.commute.specs.Independent.{Independent, inTurn}
 use Rattle.commute.proofs.Demand3.{demand-three}
 
 -- M9 deletes the row of key 21, M10 inserts a leaf under that of key 31

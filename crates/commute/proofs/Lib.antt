@@ -4,5 +4,6 @@ pub mod GoneLaws
 pub mod SpareLaws
 pub mod PlantedLaws
 pub mod TurnLaws
+pub mod InUseLaws
 pub mod Demand3
 pub mod FarmPair

@@ -8,7 +8,7 @@ use Prim.Native.Nat.{ℕ, _+_, _<_, _≤_}
 use native.Mathlib.Omega.{arith}
 use borrow.Author.Tests.{ne-eqb}
 use lib.ListN.{length}
-use Rattle.tree.specs.Table.{Table, at, shortest}
+use Rattle.tree.specs.Table.{Table, at, shortest, SameRows}
 use Rattle.tree.specs.Sound.{rowOf}
 use Rattle.tree.specs.Rules.{Sound}
 use Rattle.tree.specs.Tree.{ancestor}
@@ -26,7 +26,7 @@ use Rattle.tree.proofs.EditLaws.{rowIn, row-key, row-found, key-column, level-c
 use Rattle.tree.proofs.EditSound.{insert-apart}
 use Rattle.commute.specs.Act.{Act, insertion, deletion, renaming, keyOf, rowNamed, brings}
 use Rattle.commute.specs.Act.{newKeys, tableAfter}
-use Rattle.commute.specs.Independent.{Independent, SameRows}
+use Rattle.commute.specs.Independent.{Independent}
 use Rattle.commute.specs.Again.{goes}
 use Rattle.commute.proofs.ActLaws.{own, Fits, editOf, accepted-fits, after-sound}
 use Rattle.commute.proofs.ActLaws.{after-nodes, after-count, after-shortest}

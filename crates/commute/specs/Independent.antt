@@ -1,9 +1,8 @@
--- Demand 3: when two edits of one table may be done in either order, and what is the same afterwards.
--- The theorem is `demand-three` (proofs/Demand3.antt). Assumes nothing.
+-- Demand 3: when two edits of one table may be done in either order. What is the same afterwards is `SameRows`
+-- (tree/specs/Table.antt). The theorem is `demand-three` (proofs/Demand3.antt). Assumes nothing.
 use Prim.Native.Nat.{ℕ, _+_, _≤_, _<_}
 use mathlib.Core.Path.{_≡_}
 use mathlib.Core.Bool.{false}
-use lib.ListN.{take}
 use Rattle.tree.specs.Table.{Table, at, shortest}
 use Rattle.tree.specs.Tree.{ancestor}
 use Rattle.tree.specs.Outcome.{EditOutcome}
@@ -27,12 +26,3 @@ pub record Independent (a b : Act) (t : Table) : Type 0 where
 -- the two in turn: the outcome of b on the table that a leaves
 abbrev pub inTurn : Act → Act → Table → EditOutcome
 inTurn a b t = outcome b (outcome a t .table)
-
--- the rows in use are the same in all five columns
-pub record SameRows (t u : Table) : Type 0 where
-  pub count : t .count ≡ u .count
-  pub key : take (t .count) (t .key) ≡ take (u .count) (u .key)
-  pub size : take (t .count) (t .size) ≡ take (u .count) (u .size)
-  pub level : take (t .count) (t .level) ≡ take (u .count) (u .level)
-  pub kind : take (t .count) (t .kind) ≡ take (u .count) (u .kind)
-  pub name : take (t .count) (t .name) ≡ take (u .count) (u .name)

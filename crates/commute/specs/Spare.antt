@@ -1,9 +1,11 @@
 -- What the columns hold beyond the rows in use after an accepted edit: 01, "Finding and editing by key", on spare and
--- freed rows. That they do is `spare-stays`, `freed-zero`, `lengths-stay` (proofs/SpareLaws.antt). Assumes nothing.
+-- freed rows. That they do is `spare-stays`, `freed-zero`, `lengths-stay` (proofs/SpareLaws.antt). That an edit does
+-- not read them, where the room is the same, is `in-use-edit` (proofs/InUseLaws.antt). Assumes nothing.
 use Prim.Native.Nat.{ℕ}
 use mathlib.Core.Path.{_≡_}
 use lib.ListN.{length}
-use Rattle.tree.specs.Table.{Table, at}
+use Rattle.tree.specs.Table.{Table, at, shortest}
+use Rattle.commute.specs.Act.{Act, insertion, deletion, renaming}
 
 -- the five columns of t and u agree at row i
 pub record SameAt (t u : Table) (i : ℕ) : Type 0 where
@@ -28,3 +30,9 @@ pub record SameLengths (t u : Table) : Type 0 where
   pub level : length (u .level) ≡ length (t .level)
   pub kind : length (u .kind) ≡ length (t .kind)
   pub name : length (u .name) ≡ length (t .name)
+
+-- t and u have the same room for an edit: an insertion alone asks for room, in the shortest column
+abbrev pub SameRoom : Act → Table → Table → Type 0
+SameRoom (insertion k p) t u = shortest t ≡ shortest u
+SameRoom (deletion k) t u = Unit {0}
+SameRoom (renaming k m) t u = Unit {0}

@@ -154,7 +154,7 @@ module _ (t : Table) (u : InUse t) where
 
 -- ── edited columns of nodes ──
 -- a part from the front
-map-take : {A B : Type 0} (g : A → B) (n : ℕ) (xs : List A) → map g (take n xs) ≡ take n (map g xs)
+pub map-take : {A B : Type 0} (g : A → B) (n : ℕ) (xs : List A) → map g (take n xs) ≡ take n (map g xs)
 map-take g zero xs = refl
 map-take g (suc n) [] = refl
 map-take g (suc n) (x ∷ xs) = ap (λ z. g x ∷ z) (map-take g n xs)

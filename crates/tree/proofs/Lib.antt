@@ -8,6 +8,7 @@ pub mod AscendLaws
 pub mod RoleLaws
 pub mod AskLaws
 pub mod StepAccept
+pub mod RowsInUse
 pub mod SplitLaws
 pub mod LowestLaws
 pub mod KeptLaws
