@@ -5,7 +5,7 @@ use crate::report::{figure, Group};
 use crate::tables::{deep, flat, Columns};
 
 /// At 4,096 flat rows the check takes at most so many times what plain Rust takes.
-const CHECK_BAR: f64 = 1.5;
+const CHECK_BAR: f64 = 1.3;
 /// Twice the rows take at most so many times the time.
 const GROWTH_BAR: f64 = 2.3;
 

@@ -5,7 +5,7 @@ use crate::report::Group;
 use crate::tables::{plant, scattered_key, Columns};
 
 /// The geometric mean of all edits against plain Rust with memmove, and the worst.
-const MEAN_BAR: f64 = 1.5;
+const MEAN_BAR: f64 = 1.3;
 const WORST_BAR: f64 = 2.5;
 
 const ROWS: usize = 4_096;

@@ -1,17 +1,37 @@
-//! What twice the rows add to a step whose pairs and results stay the same.
+//! How a step's cost grows with its pairs and results, and with the rows of the table.
 
 use crate::engine::Engine;
 use crate::race::Race;
+use crate::report::Group;
 use crate::steps::{desk_pairs, time, Step, ROWS};
 use crate::tables::{plant, Columns};
 
 /// How often both tables are measured by turns; the least time counts.
 const TURNS: usize = 5;
 
+pub fn run(race: &Race) {
+    more_pairs(race);
+    more_rows(race);
+}
+
+/// Half the roles of the desk, a quarter, an eighth: the pairs and the results shrink alike.
+fn more_pairs(race: &Race) {
+    let table = plant(ROWS);
+    let mut group = Group::new("growth with pairs and results, microseconds a call");
+    for axis in [2, 6, 8, 10] {
+        for pairs in [500, 1_000, 2_000, 4_000] {
+            let mut step = Step::new(desk_pairs(0..ROWS)[..pairs].to_vec());
+            let (_, results, _) = race.ours.step(&table, step.any_node(axis));
+            let line = format!("axis {axis}: {pairs} pairs, {results} results");
+            group.line(&line, time(race, &table, &mut step));
+        }
+    }
+}
+
 /// A step adds at most what the check and the parents pass take: the time of a step of one pair,
 /// which does little else. What they take for the added rows alone is printed beside it; the
 /// question whether a step adds nothing else at all is answered by `tools/growth`.
-pub fn run(race: &Race) {
+fn more_rows(race: &Race) {
     println!();
     println!("twice the rows, the same pairs and results: microseconds more a call");
     println!("{:<44}{:>10}{:>10}{:>10}", "", "step", "one pair", "bar");

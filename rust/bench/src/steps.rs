@@ -5,7 +5,7 @@ use crate::report::Group;
 use crate::tables::{plant, scattered_key, Columns};
 
 /// The geometric mean of all steps against plain Rust, and the worst.
-const MEAN_BAR: f64 = 1.3;
+const MEAN_BAR: f64 = 1.2;
 const WORST_BAR: f64 = 2.0;
 
 pub const ROWS: usize = 4_096;
