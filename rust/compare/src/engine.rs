@@ -1,6 +1,6 @@
 //! The programs that answer calls.
 
-use crate::case::{Answer, Case};
+use crate::case::{Answer, Call, Case};
 
 /// A program that answers a call and changes what is lent to it.
 pub trait Engine {
@@ -52,12 +52,57 @@ macro_rules! lend_mut {
     };
 }
 
-mod plain_rust;
-mod second_program;
+/// A program whose package has the same functions over types of its own.
+macro_rules! engine {
+    ($(#[$words:meta])* $program:ident, $package:ident) => {
+        $(#[$words])*
+        pub struct $program;
+
+        impl Engine for $program {
+            fn name(&self) -> &'static str {
+                stringify!($package)
+            }
+
+            fn answer(&self, case: &mut Case) -> Answer {
+                use $package::{Pairs, Question, Results, Table, TableMut};
+                let Case { table, count, call } = case;
+                let count = *count;
+                same_numbers!(match call {
+                    Call::Check => $package::check(&lend!(Table, table, count)),
+                    Call::Find { wanted } => $package::find(&lend!(Table, table, count), *wanted),
+                    Call::Step(step) => $package::step(
+                        &lend!(Table, table, count),
+                        &Pairs { role: &step.role, row: &step.row },
+                        Question { axis: step.axis, test: step.test, test_name: step.test_name },
+                        &mut Results { role: &mut step.out_role, row: &mut step.out_row },
+                    ),
+                    Call::Insert(insert) => $package::insert(
+                        &mut lend_mut!(TableMut, table, count),
+                        insert.parent,
+                        &lend!(Table, insert.piece, insert.piece_count),
+                    ),
+                    Call::Delete { wanted } =>
+                        $package::delete(&mut lend_mut!(TableMut, table, count), *wanted),
+                    Call::Rename { wanted, new_name } =>
+                        $package::rename(&mut lend_mut!(TableMut, table, count), *wanted, *new_name),
+                })
+            }
+        }
+    };
+}
+
+engine!(
+    /// The plain Rust of the benchmark.
+    Plain,
+    plain
+);
+engine!(
+    /// The independent second program, which the others are compared with.
+    Second,
+    second
+);
+
 #[cfg(feature = "library")]
 mod verified;
-
-pub use plain_rust::Plain;
-pub use second_program::Second;
 #[cfg(feature = "library")]
 pub use verified::Library;
