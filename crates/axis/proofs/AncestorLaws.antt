@@ -26,11 +26,11 @@ use Rattle.axis.proofs.TurnLaws.{marked-also, turn-row, turn-take, none
 
 -- what the axes mean
 module _ (level : List ℕ) (c w : ℕ) where
-  axis-parent : onAxis 5 level c w ≡ eqb (parent level c) (suc w)
+  pub axis-parent : onAxis 5 level c w ≡ eqb (parent level c) (suc w)
   unfolding onAxis
   axis-parent = refl
 
-  axis-ancestor : onAxis 6 level c w ≡ ancestor level w c
+  pub axis-ancestor : onAxis 6 level c w ≡ ancestor level w c
   unfolding onAxis
   axis-ancestor = refl
 
@@ -38,7 +38,7 @@ module _ (level : List ℕ) (c w : ℕ) where
   unfolding onAxis
   axis-self = refl
 
-  axis-path : onAxis 7 level c w ≡ onPath level (suc c) w
+  pub axis-path : onAxis 7 level c w ≡ onPath level (suc c) w
   unfolding onAxis onPath
   axis-path = refl
 

@@ -19,6 +19,8 @@ pub mod ClimbLaws
 pub mod TurnLaws
 pub mod ChildLaws
 pub mod AncestorLaws
+pub mod PathLaws
+pub mod LoneLaws
 pub mod SiblingLaws
 pub mod LaterLaws
 pub mod EarlierLaws

@@ -6,4 +6,5 @@ mod ranges; // ranges.rt: the axes whose rows come out as ranges
 mod row_set; // row_set.rt: a set of rows
 mod walk; // walk.rt: from sibling to sibling, and from a row up to the root
 mod mark; // mark.rt: the axes whose rows are put into a set
+mod path; // path.rt: the way up from a lone context
 pub mod role; // role.rt: one role on any axis

@@ -7,6 +7,7 @@ ghost use Rattle.axis.specs.Want.{fits};
 ghost use Rattle.axis.specs.RowSet.{Marks, Marked};
 ghost use Rattle.axis.specs.Role.{rangedAxis, markedAxis, climbsAxis, RoleAsk, RoleDone};
 use super::mark;
+use super::path;
 use super::ranges;
 use super::row_set;
 use tree::logic::either;
@@ -182,6 +183,21 @@ pub fn one_role(
             size,
             kind,
             name,
+            count,
+            rows,
+            want_kind,
+            want_name,
+            out,
+        );
+    }
+    if path::is_lone(axis, rows.len(), want_kind, want_name) {
+        return path::lone_rows(
+            axis,
+            size,
+            level,
+            kind,
+            name,
+            up,
             count,
             rows,
             want_kind,

@@ -1,10 +1,16 @@
--- `axis::role::one_role` meets its contract: an axis that is not ranged goes through the set. Assumes nothing.
+-- `axis::role::one_role` meets its contract: an axis that is not ranged goes through the set, unless the rows are on
+-- the way up of a lone context. Assumes nothing.
 use mathlib.Core.Path.{sym, _∙_}
 use Rattle.axis.proofs.WroteLaws.{wrote-as}
+use Rattle.axis.proofs.LoneLaws.{lone-climbs}
 use Rattle.axis.proofs.RoleAxisLaws.{marked-rest, marked-rows, marked-drains}
 use borrow.Author.Needs.{needs}
 use Rattle.axis.proofs.role.one_role.Statement.{statement}
 use Rattle.axis.proofs.role.one_role.Tie as tie
+
+-- where the function begins, from where the axis is not ranged
+abbrev start : tie.Else1 → tie.Start
+start s = s .before .before .before .before .before .before .before .before
 
 is-ranged-requires : tie.Need-is-ranged-requires
 is-ranged-requires c κs = search needs
@@ -21,25 +27,47 @@ same-length c = search needs
 returns : tie.Need-returns
 returns c = search needs
 
-marked-requires : tie.Need-marked-requires
-marked-requires c κs =
-    let pre = c .before .before .before .before .before .before .before .before .before .pre in (
-      marked-rest _ (pre .known) (sym (c .before .before .is-ranged .ensures) ∙ c .before .if1 .left),
-      (record { shape = pre .asks .shape; contexts = pre .asks .contexts; blank = pre .blank }, pre .parents),
-    )
+is-lone-requires : tie.Need-is-lone-requires
+is-lone-requires c κs = search needs
 
-drain-requires : tie.Need-drain-requires
-drain-requires c κs =
-    let pre = c .before .before .before .before .before .before .before .before .before .before .before .before .pre in
-    marked-drains (c .before .before .marked .ensures) (pre .asks .shape .few) (pre .asks)
+lone-rows-requires : tie.Need-lone-rows-requires
+lone-rows-requires c κs =
+    let pre = start (c .before .before .before) .pre in
+    let lone = sym (c .before .before .is-lone .ensures) ∙ c .before .if2 .taken in
+    record { lone = lone; asks = pre .asks; parents = pre .parents (lone-climbs _ _ _ _ lone) }
 
 same-length-2 : tie.Need-same-length-2
 same-length-2 c = search needs
 
 returns-2 : tie.Need-returns-2
 returns-2 c =
+    let call = c .before .before in
+    record {
+      wrote = call .lone-rows .ensures;
+      blank = start (call .before .before .before .before) .pre .blank;
+    }
+
+marked-requires : tie.Need-marked-requires
+marked-requires c κs =
+    let other = c .before .before .before in
+    let pre = start other .pre in (
+      marked-rest _ (pre .known) (sym (other .before .is-ranged .ensures) ∙ other .if1 .left),
+      (record { shape = pre .asks .shape; contexts = pre .asks .contexts; blank = pre .blank }, pre .parents),
+    )
+
+drain-requires : tie.Need-drain-requires
+drain-requires c κs =
+    let marks = c .before .before in
+    let pre = start (marks .before .before .before .before) .pre in
+    marked-drains (marks .marked .ensures) (pre .asks .shape .few) (pre .asks)
+
+same-length-3 : tie.Need-same-length-3
+same-length-3 c = search needs
+
+returns-3 : tie.Need-returns-3
+returns-3 c =
     let marks = c .before .before .before .before .before in
-    let pre = marks .before .before .before .before .before .before .before .before .before .before .pre in
+    let pre = start (marks .before .before .before .before) .pre in
     record {
       wrote =
           wrote-as (marked-rows (marks .marked .ensures) (pre .asks .shape .few) _)
@@ -55,7 +83,11 @@ one-role-spec =
     ranged-requires
     same-length
     returns
+    is-lone-requires
+    lone-rows-requires
+    same-length-2
+    returns-2
     marked-requires
     drain-requires
-    same-length-2
-    returns-2)
+    same-length-3
+    returns-3)

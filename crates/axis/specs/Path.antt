@@ -1,0 +1,36 @@
+-- The way up from the one context of a role, written without a set: which rows it has, and what the functions that
+-- write it ask for. Assumes nothing.
+use Prim.Native.Nat.{ℕ, _≤_}
+use mathlib.Core.Path.{_≡_}
+use mathlib.Core.Bool.{Bool, true, _&&_, _||_}
+use mathlib.Core.List.{List}
+use lib.Dec.{eqb}
+use lib.ListN.{length}
+use Rattle.tree.specs.Search.{gather}
+use Rattle.tree.specs.Rules.{Shape}
+use Rattle.axis.specs.Reach.{RoleIn, Parents}
+use Rattle.axis.specs.Mark.{onPath}
+
+-- the rows below n that a place names or that are its ancestors, ascending
+unfoldable pub pathRows : List ℕ → ℕ → ℕ → List ℕ
+pathRows level n place = gather (onPath level place) n
+
+-- of so many contexts there is one, and its parent is asked for, or all its ancestors, with itself or without
+unfoldable pub lonePath : ℕ → ℕ → ℕ → ℕ → Bool
+lonePath axis many wantKind wantName =
+    eqb many 1 && (eqb axis 5 || ((eqb axis 6 || eqb axis 7) && (eqb wantKind 5 && eqb wantName 0)))
+
+-- the path of a place has k rows, and there is room for them
+pub record PathIn (size level : List ℕ) (n : ℕ) (up : List ℕ) (place k : ℕ) (out : List ℕ) : Type 0 where
+  pub shape : Shape size level n
+  pub parents : Parents level n up
+  pub low : place ≤ n
+  pub many : length (pathRows level n place) ≡ k
+  pub room : k ≤ length out
+
+-- one context whose rows are on its way up, the parents, and room for the rows
+pub record LoneIn (axis : ℕ) (size level kind name up : List ℕ) (n wantKind wantName : ℕ) (cs out : List ℕ)
+    : Type 0 where
+  pub lone : lonePath axis (length cs) wantKind wantName ≡ true
+  pub asks : RoleIn axis size level kind name n wantKind wantName cs out
+  pub parents : Parents level n up
