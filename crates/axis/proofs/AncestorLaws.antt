@@ -17,7 +17,7 @@ use Rattle.tree.specs.Axis.{onAxis}
 use Rattle.tree.proofs.TreeLaws.{parent-below}
 use Rattle.tree.proofs.SoundLaws.{both, both-of, either, either-right}
 use Rattle.tree.proofs.AxisLaws.{same-test}
-use Rattle.axis.specs.Reach.{Parents}
+use Rattle.span.specs.Reach.{Parents}
 use Rattle.axis.specs.RowSet.{has, Added, Marked}
 use Rattle.axis.specs.Mark.{onPath, Joined, Climbs, Turn}
 use Rattle.axis.proofs.MarkLaws.{joined-add}

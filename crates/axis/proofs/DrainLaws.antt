@@ -17,11 +17,11 @@ use lib.Count.{trailingZeros}
 use Rattle.tree.specs.Table.{at}
 use Rattle.tree.specs.Search.{gather, only}
 use Rattle.tree.proofs.SearchLaws.{gather-zero, gather-suc, gather-skip, gather-grows, gather-ext}
-use Rattle.axis.specs.Reach.{Wrote}
-use Rattle.axis.specs.Want.{fits}
+use Rattle.span.specs.Reach.{Wrote}
+use Rattle.span.specs.Want.{fits}
 use Rattle.axis.specs.RowSet.{bit, has, inWord, WordDrains, Drains, Drained}
 use Rattle.axis.proofs.LeftLaws.{Left, left-start, left-none, left-high, left-low, left-skip, left-next}
-use Rattle.axis.proofs.WroteLaws.{wrote-none, wrote-length, wrote-part}
+use Rattle.span.proofs.WroteLaws.{wrote-none, wrote-length, wrote-part}
 use Rattle.axis.proofs.RowSetLaws.{has-word, has-zero, unmarked-zero}
 use Rattle.axis.proofs.WordLaws.{wordRows}
 

@@ -1,10 +1,3 @@
-pub mod WantLaws
-pub mod WroteLaws
-pub mod AppendedLaws
-pub mod ScanLaws
-pub mod RangeLaws
-pub mod SpanLaws
-pub mod SideLaws
 pub mod BitLaws
 pub mod LeftLaws
 pub mod RowSetLaws

@@ -16,14 +16,14 @@ use Rattle.tree.specs.Tree.{parent}
 use Rattle.tree.specs.Axis.{onAxis}
 use Rattle.tree.proofs.SearchLaws.{gather-ext}
 use Rattle.tree.proofs.SoundLaws.{both, either, either-left, either-right}
-use Rattle.axis.specs.Want.{fits}
-use Rattle.axis.specs.Reach.{anyOn, oneRole, Wrote}
-use Rattle.axis.specs.Range.{rowsIn, Appended, RangeIn}
+use Rattle.span.specs.Want.{fits}
+use Rattle.span.specs.Reach.{anyOn, oneRole, Wrote}
+use Rattle.span.specs.Range.{rowsIn, Appended, RangeIn}
 use Rattle.axis.specs.Mark.{onPath}
 use Rattle.axis.specs.Role.{climbsAxis}
 use Rattle.axis.specs.Path.{pathRows, lonePath, PathIn, LoneIn}
-use Rattle.axis.proofs.WantLaws.{fits-any}
-use Rattle.axis.proofs.RangeLaws.{Covered, cover-start, cover-skip, cover-asks, cover-range, cover-done}
+use Rattle.span.proofs.WantLaws.{fits-any}
+use Rattle.span.proofs.RangeLaws.{Covered, cover-start, cover-skip, cover-asks, cover-range, cover-done}
 use Rattle.axis.proofs.ClimbLaws.{parent-low, ancestor-path}
 use Rattle.axis.proofs.AncestorLaws.{axis-parent, axis-ancestor, axis-path}
 use Rattle.axis.proofs.PathLaws.{path-above-count, path-own-count}

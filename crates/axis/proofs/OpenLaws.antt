@@ -17,7 +17,7 @@ use Rattle.tree.specs.Table.{at}
 use Rattle.tree.specs.Tree.{parent}
 use Rattle.tree.specs.Rules.{Shape}
 use Rattle.tree.proofs.SearchLaws.{nearest-le}
-use Rattle.axis.specs.Reach.{Parents}
+use Rattle.span.specs.Reach.{Parents}
 
 -- one more than the last row before i whose level is one less than d, or 0
 unfoldable pub lastAbove : List ℕ → ℕ → ℕ → ℕ

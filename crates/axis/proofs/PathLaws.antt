@@ -19,7 +19,7 @@ use Rattle.tree.proofs.SearchLaws.{gather-zero, gather-yes, gather-skip, gather
 use Rattle.tree.proofs.SoundLaws.{either-left}
 use Rattle.tree.proofs.AxisLaws.{same-test}
 use Rattle.tree.proofs.LevelLaws.{ancestors-count}
-use Rattle.axis.specs.Reach.{Wrote}
+use Rattle.span.specs.Reach.{Wrote}
 use Rattle.axis.specs.Mark.{onPath}
 use Rattle.axis.specs.Path.{pathRows, PathIn}
 use Rattle.axis.proofs.ClimbLaws.{parent-low, ancestor-path, path-before}

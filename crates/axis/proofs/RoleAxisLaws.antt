@@ -17,11 +17,11 @@ use Rattle.tree.specs.Axis.{axisOk}
 use Rattle.tree.proofs.SearchLaws.{gather-ext}
 use Rattle.tree.proofs.SoundLaws.{both, either, either-left, either-right}
 use Rattle.tree.proofs.AcceptLaws.{neither}
-use Rattle.axis.specs.Reach.{anyOn, oneRole, RoleIn, Wrote, Parents}
-use Rattle.axis.specs.Want.{fits}
+use Rattle.span.specs.Reach.{anyOn, oneRole, RoleIn, Wrote, Parents}
+use Rattle.span.specs.Want.{fits}
 use Rattle.axis.specs.RowSet.{has, RowSet, Marks, Marked, Drains}
 use Rattle.axis.specs.Role.{rangedAxis, markedAxis, climbsAxis}
-use Rattle.axis.proofs.WroteLaws.{wrote-as}
+use Rattle.span.proofs.WroteLaws.{wrote-as}
 
 pub role-as : {a b : ℕ} {size level kind name : List ℕ} {n i j : ℕ} {cs out : List ℕ} → a ≡ b
     → RoleIn a size level kind name n i j cs out → RoleIn b size level kind name n i j cs out

@@ -14,11 +14,11 @@ use lib.Bits.{bitAnd}
 use lib.Count.{trailingZeros}
 use Rattle.tree.specs.Search.{gather}
 use Rattle.tree.proofs.SearchLaws.{gather-zero, gather-skip, gather-yes, gather-no, gather-grows}
-use Rattle.axis.specs.Reach.{Wrote}
+use Rattle.span.specs.Reach.{Wrote}
 use Rattle.axis.specs.RowSet.{bit, inWord}
 use Rattle.axis.proofs.LeftLaws.{Left, left-start, left-none, left-next}
 use Rattle.axis.proofs.LeftLaws.{left-high, left-low, left-set, left-skip}
-use Rattle.axis.proofs.WroteLaws.{wrote-none, wrote-length, wrote-more}
+use Rattle.span.proofs.WroteLaws.{wrote-none, wrote-length, wrote-more}
 
 -- a row before the word is not in it
 word-before : (base word w : ℕ) → w < base → inWord base word w ≡ false

@@ -9,7 +9,7 @@ use lib.ListN.{length}
 use Rattle.tree.specs.Table.{at}
 use Rattle.tree.specs.Tree.{parent, ancestor}
 use Rattle.tree.specs.Rules.{Shape}
-use Rattle.axis.specs.Reach.{Contexts, Parents}
+use Rattle.span.specs.Reach.{Contexts, Parents}
 use Rattle.axis.specs.RowSet.{has, inWord, RowSet, Marked}
 
 -- row w is a child of p, at or after row a and before row e

@@ -8,7 +8,7 @@ use lib.Dec.{eqb}
 use lib.ListN.{length}
 use Rattle.tree.specs.Search.{gather}
 use Rattle.tree.specs.Rules.{Shape}
-use Rattle.axis.specs.Reach.{RoleIn, Parents}
+use Rattle.span.specs.Reach.{RoleIn, Parents}
 use Rattle.axis.specs.Mark.{onPath}
 
 -- the rows below n that a place names or that are its ancestors, ascending

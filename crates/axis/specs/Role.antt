@@ -5,8 +5,8 @@ use mathlib.Core.List.{List}
 use Prim.Native.Nat.{ℕ}
 use lib.Dec.{eqb}
 use Rattle.tree.specs.Axis.{axisOk}
-use Rattle.axis.specs.Reach.{oneRole, RoleIn, Wrote, Parents}
-use Rattle.axis.specs.Want.{fits}
+use Rattle.span.specs.Reach.{oneRole, RoleIn, Wrote, Parents}
+use Rattle.span.specs.Want.{fits}
 use Rattle.axis.specs.RowSet.{Blank}
 
 -- the axes whose rows come out as ranges

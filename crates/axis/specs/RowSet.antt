@@ -9,8 +9,8 @@ use lib.ListN.{length}
 use Rattle.tree.specs.Table.{at}
 use Rattle.tree.specs.Search.{gather}
 use Rattle.tree.specs.Rules.{Shape}
-use Rattle.axis.specs.Reach.{anyOn, Contexts, Wrote}
-use Rattle.axis.specs.Want.{fits}
+use Rattle.span.specs.Reach.{anyOn, Contexts, Wrote}
+use Rattle.span.specs.Want.{fits}
 
 -- bit b of a word is set
 unfoldable pub bit : ℕ → ℕ → Bool

@@ -1,8 +1,5 @@
 // The rows of one role on one axis, from the role's own contexts: document 01, "The step", codes 1 to 11.
 
-pub mod want; // want.rt: the node test as a wanted kind and a wanted name
-mod scan; // scan.rt: the rows of a range that fit
-mod ranges; // ranges.rt: the axes whose rows come out as ranges
 mod row_set; // row_set.rt: a set of rows
 mod walk; // walk.rt: from sibling to sibling, and from a row up to the root
 mod mark; // mark.rt: the axes whose rows are put into a set

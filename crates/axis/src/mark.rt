@@ -7,7 +7,7 @@ use super::walk::hop;
 ghost use Prim.Native.Nat.{_+_};
 ghost use lib.ListN.{take, drop};
 ghost use Rattle.tree.specs.Rules.{Shape};
-ghost use Rattle.axis.specs.Reach.{Parents};
+ghost use Rattle.span.specs.Reach.{Parents};
 ghost use Rattle.axis.specs.RowSet.{Marks, Marked};
 ghost use Rattle.axis.specs.Mark.{Turn};
 

@@ -1,9 +1,9 @@
 // The way up from the one context of a role: its parent, or all its ancestors, written without a set.
 ghost use mathlib.Core.Path.{_≡_};
-ghost use Rattle.axis.specs.Want.{fits};
-ghost use Rattle.axis.specs.Reach.{oneRole, Wrote};
+ghost use Rattle.span.specs.Want.{fits};
+ghost use Rattle.span.specs.Reach.{oneRole, Wrote};
 ghost use Rattle.axis.specs.Path.{pathRows, lonePath, PathIn, LoneIn};
-use super::scan::emit_one;
+use span::scan::emit_one;
 use tree::logic::both;
 use tree::logic::either;
 

@@ -2,14 +2,14 @@
 ghost use mathlib.Core.Path.{_≡_};
 ghost use mathlib.Core.Bool.{true};
 ghost use Rattle.tree.specs.Rules.{Shape};
-ghost use Rattle.axis.specs.Reach.{oneRole, RoleIn, Wrote, Parents};
-ghost use Rattle.axis.specs.Want.{fits};
+ghost use Rattle.span.specs.Reach.{oneRole, RoleIn, Wrote, Parents};
+ghost use Rattle.span.specs.Want.{fits};
 ghost use Rattle.axis.specs.RowSet.{Marks, Marked};
 ghost use Rattle.axis.specs.Role.{rangedAxis, markedAxis, climbsAxis, RoleAsk, RoleDone};
 use super::mark;
 use super::path;
-use super::ranges;
 use super::row_set;
+use span::ranges;
 use tree::logic::either;
 
 // Whether the rows of the axis come out as ranges.

@@ -1,10 +1,10 @@
 // A set of rows: 64 words of 64 bits, and a word `used` that says which of them hold a row.
-use crate::want::fits_row;
+use span::want::fits_row;
 ghost use mathlib.Core.Path.{_≡_};
 ghost use Prim.Native.Nat.{_+_, _*_, _<_};
 ghost use lib.ListN.{length};
 ghost use Rattle.tree.specs.Search.{gather};
-ghost use Rattle.axis.specs.Reach.{Wrote};
+ghost use Rattle.span.specs.Reach.{Wrote};
 ghost use Rattle.axis.specs.RowSet.{has, RowSet, Added, inWord, wordFits, WordDrains, Drains, Drained};
 ghost use Rattle.axis.specs.Mark.{Joined};
 

@@ -21,13 +21,13 @@ use Rattle.tree.specs.declared.Checked.the-variants.{Passed}
 use Rattle.tree.proofs.SearchLaws.{gather-zero, gather-suc}
 use Rattle.tree.proofs.SoundLaws.{sound-shape, next-passed, given-passed}
 use Rattle.tree.proofs.RoleLaws.{pair-passes}
-use Rattle.axis.specs.Want.{wantedKind, fits}
-use Rattle.axis.specs.Reach.{oneRole, Wrote}
+use Rattle.span.specs.Want.{wantedKind, fits}
+use Rattle.span.specs.Reach.{oneRole, Wrote}
 use Rattle.axis.specs.RowSet.{Blank}
 use Rattle.axis.specs.Role.{RoleAsk, RoleDone}
 use Rattle.step.specs.Runs.{pairsFrom, part, RunEnd}
 use Rattle.step.specs.Steps.{Steps}
-use Rattle.axis.proofs.WroteLaws.{wrote-length}
+use Rattle.span.proofs.WroteLaws.{wrote-length}
 use Rattle.step.proofs.RunLaws.{roleRows, step-run, run-contexts}
 
 -- a search gathers no more than it looks at

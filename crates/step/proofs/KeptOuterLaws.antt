@@ -18,8 +18,8 @@ use Rattle.tree.specs.Rules.{Shape}
 use Rattle.tree.proofs.SoundLaws.{shape-descendants, shape-fits}
 use Rattle.tree.proofs.AxisLaws.{ancestor-is}
 use Rattle.step.specs.KeptOf.{keptOf, KeptIn}
-use Rattle.axis.proofs.RangeLaws.{less?, contexts-rise}
-use Rattle.axis.proofs.SideLaws.{nests}
+use Rattle.span.proofs.RangeLaws.{less?, contexts-rise}
+use Rattle.span.proofs.SideLaws.{nests}
 use Rattle.step.proofs.KeptOfLaws.{keptRow, keptBelow, kept-rows, row-none, row-dropped, row-kept}
 use Rattle.step.proofs.KeptOfLaws.{below-skip, below-next, below-none}
 

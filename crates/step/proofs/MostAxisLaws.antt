@@ -20,7 +20,7 @@ use Rattle.tree.specs.Rules.{Shape}
 use Rattle.tree.proofs.TreeLaws.{parent-below}
 use Rattle.tree.proofs.SoundLaws.{either, shape-descendants}
 use Rattle.tree.proofs.LevelLaws.{ancestors-count}
-use Rattle.axis.specs.Reach.{Parents}
+use Rattle.span.specs.Reach.{Parents}
 use Rattle.step.specs.Most.{sumOf, onCount, spanOf, placeSpan, parentSpan, FewRows}
 use Rattle.axis.proofs.HopLaws.{less?, child-within}
 use Rattle.axis.proofs.SiblingLaws.{later-on, earlier-on}

@@ -18,7 +18,7 @@ use Rattle.tree.specs.Pairs.{pairsOf, withRole}
 use Rattle.tree.specs.Step.{Ask, stepList}
 use Rattle.tree.proofs.SearchLaws.{least-le, least-below, least-passes}
 use Rattle.tree.proofs.SoundLaws.{both, sound-shape}
-use Rattle.axis.specs.Reach.{anyOn, oneRole}
+use Rattle.span.specs.Reach.{anyOn, oneRole}
 use Rattle.step.specs.Runs.{pairsFrom, part, RunEnd}
 use Rattle.step.specs.Steps.{Steps}
 use Rattle.step.specs.Most.{sumOf, onCount, FewRows}

@@ -11,7 +11,7 @@ use Rattle.tree.specs.Tree.{parent}
 use Rattle.tree.specs.Rules.{Shape}
 use Rattle.tree.proofs.TreeLaws.{parent-below}
 use Rattle.tree.proofs.SoundLaws.{shape-fits}
-use Rattle.axis.specs.Reach.{Parents}
+use Rattle.span.specs.Reach.{Parents}
 use Rattle.step.specs.Most.{sumOf, spanOf, placeSpan, parentSpan, FewRows}
 use Rattle.axis.proofs.ClimbLaws.{parent-low}
 use Rattle.step.proofs.SumLaws.{sum-less, sum-same}

@@ -26,10 +26,10 @@ use Rattle.tree.proofs.AcceptLaws.{neither}
 use Rattle.tree.proofs.StepLaws.{In, Ordered}
 use Rattle.tree.proofs.SplitLaws.{RolesBelow, step-split}
 use Rattle.tree.proofs.RoleLaws.{Level, all-above, level-ordered, in-order}
-use Rattle.axis.specs.Want.{wantedKind, fits}
-use Rattle.axis.specs.Reach.{anyOn, oneRole, Contexts}
+use Rattle.span.specs.Want.{wantedKind, fits}
+use Rattle.span.specs.Reach.{anyOn, oneRole, Contexts}
 use Rattle.step.specs.Runs.{pairsFrom, part, RunEnd}
-use Rattle.axis.proofs.WantLaws.{fits-passes}
+use Rattle.span.proofs.WantLaws.{fits-passes}
 
 -- ── one role's lines ──
 some-role : (f : ℕ → Bool) (r : ℕ) (cs : List ℕ) → some f r (withRole r cs) ≡ some f 0 (withRole 0 cs)

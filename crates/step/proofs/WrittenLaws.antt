@@ -9,13 +9,13 @@ use borrow.Rule.Slice.PartMut.{midOf, putMid}
 use Rattle.tree.specs.Table.{Table, at}
 use Rattle.tree.specs.Pairs.{Pair, pairsOf, withRole, rolesOf, rowsOf}
 use Rattle.tree.specs.Step.{Ask, stepList}
-use Rattle.axis.specs.Want.{wantedKind}
-use Rattle.axis.specs.Reach.{Wrote}
+use Rattle.span.specs.Want.{wantedKind}
+use Rattle.span.specs.Reach.{Wrote}
 use Rattle.axis.specs.RowSet.{Blank}
 use Rattle.axis.specs.Role.{RoleAsk, RoleDone}
 use Rattle.step.specs.Runs.{pairsFrom, part, RunEnd}
 use Rattle.step.specs.Steps.{Steps, Fits, Lists}
-use Rattle.axis.proofs.WroteLaws.{wrote-as, wrote-none, wrote-length, wrote-part}
+use Rattle.span.proofs.WroteLaws.{wrote-as, wrote-none, wrote-length, wrote-part}
 use Rattle.step.proofs.RunLaws.{roleRows}
 use Rattle.step.proofs.CountedLaws.{length-role, step-at, step-end, row-most, run-asks}
 

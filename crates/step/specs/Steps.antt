@@ -10,7 +10,7 @@ use Rattle.tree.specs.Pairs.{pairsOf, rolesOf, rowsOf}
 use Rattle.tree.specs.Step.{Ask, stepList}
 use Rattle.tree.specs.Refusal.{pairCheck, askCheck}
 use Rattle.tree.specs.declared.Checked.the-variants.{Passed}
-use Rattle.axis.specs.Reach.{Wrote, Parents}
+use Rattle.span.specs.Reach.{Wrote, Parents}
 use Rattle.axis.specs.Role.{climbsAxis}
 
 abbrev pub askOf : ℕ → ℕ → ℕ → Ask

@@ -8,7 +8,7 @@ ghost use lib.ListN.{length};
 ghost use Rattle.tree.specs.Table.{tableOf};
 ghost use Rattle.tree.specs.Pairs.{pairsOf};
 ghost use Rattle.tree.specs.Step.{stepList};
-ghost use Rattle.axis.specs.Reach.{Parents};
+ghost use Rattle.span.specs.Reach.{Parents};
 ghost use Rattle.axis.specs.Role.{climbsAxis};
 ghost use Rattle.step.specs.Steps.{askOf, Steps};
 ghost use Rattle.step.specs.Most.{rolesIn, sumOf, onCount, spanOf, placeSpan, parentSpan, FewRows};

@@ -6,12 +6,12 @@ ghost use Rattle.tree.specs.Table.{tableOf};
 ghost use Rattle.tree.specs.Pairs.{pairsOf};
 ghost use Rattle.tree.specs.Kept.{keptCount};
 ghost use Rattle.tree.specs.Step.{stepList};
-ghost use Rattle.axis.specs.Reach.{Wrote};
+ghost use Rattle.span.specs.Reach.{Wrote};
 ghost use Rattle.step.specs.Runs.{RunEnd};
 ghost use Rattle.step.specs.Steps.{askOf, Steps, Fits, Lists};
 use super::kept::kept_of;
 use axis::role::one_role;
-use axis::want::wanted_kind;
+use span::want::wanted_kind;
 
 // The place after the run of equal roles that begins at i.
 fn run_end(role: &[usize], i: usize) -> usize

@@ -2,7 +2,7 @@
 -- Assumes nothing.
 use mathlib.Core.Path.{sym}
 use native.Mathlib.Omega.{arith}
-use Rattle.axis.proofs.WroteLaws.{wrote-as}
+use Rattle.span.proofs.WroteLaws.{wrote-as}
 use Rattle.axis.proofs.LoneLaws.{lone-one, lone-row, lone-selves-rows, lone-selves-asks}
 use Rattle.axis.proofs.LoneLaws.{lone-above-rows, lone-above-asks}
 use Rattle.axis.proofs.LoneLaws.{lone-parent-none, lone-parent-asks, lone-parent-done}

@@ -1,7 +1,7 @@
 -- `axis::role::one_role` meets its contract: an axis that is not ranged goes through the set, unless the rows are on
 -- the way up of a lone context. Assumes nothing.
 use mathlib.Core.Path.{sym, _∙_}
-use Rattle.axis.proofs.WroteLaws.{wrote-as}
+use Rattle.span.proofs.WroteLaws.{wrote-as}
 use Rattle.axis.proofs.LoneLaws.{lone-climbs}
 use Rattle.axis.proofs.RoleAxisLaws.{marked-rest, marked-rows, marked-drains}
 use borrow.Author.Needs.{needs}

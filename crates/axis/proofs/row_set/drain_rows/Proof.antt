@@ -8,7 +8,7 @@ use native.Mathlib.Omega.{arith}
 use borrow.Author.Needs.{needs}
 use lib.Count.{trailingZeros}
 use lib.ListN.{length}
-use Rattle.axis.specs.Want.{fits}
+use Rattle.span.specs.Want.{fits}
 use Rattle.axis.proofs.BitLaws.{lowest-less}
 use Rattle.axis.proofs.LeftLaws.{left-high}
 use Rattle.axis.proofs.DrainLaws.{SetWalk, set-start, set-length, set-place, set-done}

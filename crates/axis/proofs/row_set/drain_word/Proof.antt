@@ -7,7 +7,7 @@ use native.Mathlib.Omega.{arith}
 use borrow.Author.Needs.{needs}
 use lib.Count.{trailingZeros}
 use lib.ListN.{length}
-use Rattle.axis.specs.Want.{fits}
+use Rattle.span.specs.Want.{fits}
 use Rattle.axis.proofs.BitLaws.{lowest-less}
 use Rattle.axis.proofs.LeftLaws.{left-high, left-set}
 use Rattle.axis.proofs.WordLaws.{WordWalk, word-start, word-done, word-length, word-place, word-no, word-yes}

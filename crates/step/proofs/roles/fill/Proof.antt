@@ -4,8 +4,8 @@ use mathlib.Core.Path.{_≡_, refl}
 use native.Mathlib.Nat.{le-antisymm}
 use native.Mathlib.Omega.{arith}
 use lib.ListN.{length, replicate, length-set, length-replicate, replicate-append-replicate}
-use Rattle.axis.specs.Reach.{Wrote}
-use Rattle.axis.proofs.WroteLaws.{wrote-as, wrote-none, wrote-more}
+use Rattle.span.specs.Reach.{Wrote}
+use Rattle.span.proofs.WroteLaws.{wrote-as, wrote-none, wrote-more}
 use borrow.Author.Needs.{needs}
 use Rattle.step.proofs.roles.fill.Statement.{statement}
 use Rattle.step.proofs.roles.fill.Tie as tie

@@ -1,0 +1,7 @@
+pub mod WantLaws
+pub mod WroteLaws
+pub mod AppendedLaws
+pub mod ScanLaws
+pub mod RangeLaws
+pub mod SpanLaws
+pub mod SideLaws

@@ -1,0 +1,192 @@
+-- The rows of a range that pass, `rows-..`; the loop that appends them, `scan-..`; a range that is scanned as a part
+-- of the columns, `range-..`; a range of at most one row, `one-..`. Assumes nothing.
+use mathlib.Core.Path.{_≡_, refl, sym, ap, ap₂, subst, subst₂, _∙_}
+use mathlib.Core.Logic.{⊎-elim}
+use mathlib.Core.Bool.{Bool, true, false}
+use mathlib.Core.List.{List, [], _∷_, _++_, append-assoc, append-nil}
+use Prim.Native.Nat.{ℕ, zero, suc, _+_, _-_, _^_, _<_, _≤_}
+use native.Mathlib.Nat.{le-refl, le-of-suc-le-suc, eq-or-lt-of-le, add-zero, add-suc}
+use native.Mathlib.Numerals.{add-one}
+use native.Mathlib.Omega.{arith}
+use lib.ListN.{length, take, drop, set, length-append, length-take, length-drop}
+use Rattle.tree.specs.Search.{gather, only}
+use Rattle.tree.proofs.SearchLaws.{only-none, only-one, gather-suc}
+use Rattle.span.specs.Want.{fits}
+use Rattle.span.specs.Range.{rowsFrom, rowsIn, Appended, ScanIn, RangeIn}
+use Rattle.span.proofs.AppendedLaws.{appended-as, appended-none, appended-more, appended-length}
+
+-- ── the rows ──
+module _ (from : ℕ) (f : ℕ → Bool) where
+  pub rows-none : rowsFrom from f zero ≡ []
+  unfolding rowsFrom
+  rows-none = refl
+
+  pub rows-suc : (k : ℕ) → rowsFrom from f (suc k) ≡ rowsFrom from f k ++ only (f k) (from + k)
+  unfolding rowsFrom
+  rows-suc k = refl
+
+  -- a row that does not pass, and one that does
+  pub rows-no : (k : ℕ) → f k ≡ false → rowsFrom from f (k + 1) ≡ rowsFrom from f k
+  rows-no k e =
+      ap (rowsFrom from f) (add-one k) ∙ rows-suc k
+      ∙ ap (λ (l : List ℕ). rowsFrom from f k ++ l) (only-none (f k) (from + k) e)
+      ∙ append-nil (rowsFrom from f k)
+
+  pub rows-yes : (k : ℕ) → f k ≡ true → rowsFrom from f (k + 1) ≡ rowsFrom from f k ++ ((from + k) ∷ [])
+  rows-yes k e =
+      ap (rowsFrom from f) (add-one k) ∙ rows-suc k
+      ∙ ap (λ (l : List ℕ). rowsFrom from f k ++ l) (only-one (f k) (from + k) e)
+
+  more : (b : ℕ) → length (rowsFrom from f (suc b)) ≡ length (rowsFrom from f b) + length (only (f b) (from + b))
+  more b = ap length (rows-suc b) ∙ length-append (rowsFrom from f b) (only (f b) (from + b))
+
+  pub rows-grow : (a b : ℕ) → a ≤ b → length (rowsFrom from f a) ≤ length (rowsFrom from f b)
+  rows-grow a zero l = let e : a ≡ zero = omega arith in rw e (le-refl (length (rowsFrom from f zero)))
+  rows-grow a (suc b) l = ⊎-elim
+      (λ e. rw e (le-refl (length (rowsFrom from f (suc b)))))
+      (λ m. omega (arith, more b, rows-grow a b (le-of-suc-le-suc m)))
+      (eq-or-lt-of-le l)
+
+-- two tests that agree at each of the places
+pub rows-ext : (from : ℕ) (f g : ℕ → Bool) (k : ℕ) → ((i : ℕ) → i < k → f i ≡ g i)
+    → rowsFrom from f k ≡ rowsFrom from g k
+rows-ext from f g zero h = rows-none from f ∙ sym (rows-none from g)
+rows-ext from f g (suc k) h =
+    rows-suc from f k
+    ∙ ap₂ (λ (l : List ℕ) (b : Bool). l ++ only b (from + k))
+    (rows-ext from f g k (λ i l. h i (omega arith))) (h k (le-refl (suc k)))
+    ∙ sym (rows-suc from g k)
+
+-- what passes below a row, and then the k rows from there on
+rows-after : (f : ℕ → Bool) (from k : ℕ) → gather f (from + k) ≡ gather f from ++ rowsFrom from (λ i. f (from + i)) k
+rows-after f from zero =
+    ap (gather f) (add-zero from)
+    ∙ sym (ap (λ (l : List ℕ). gather f from ++ l) (rows-none from (λ i. f (from + i))) ∙ append-nil (gather f from))
+rows-after f from (suc k) =
+    ap (gather f) (add-suc from k) ∙ gather-suc f (from + k)
+    ∙ ap (λ (l : List ℕ). l ++ only (f (from + k)) (from + k)) (rows-after f from k)
+    ∙ append-assoc (gather f from) (rowsFrom from (λ i. f (from + i)) k) (only (f (from + k)) (from + k))
+    ∙ ap (λ (l : List ℕ). gather f from ++ l) (sym (rows-suc from (λ i. f (from + i)) k))
+
+-- what passes below the end of a range
+pub rows-join : (f : ℕ → Bool) (from to : ℕ) → from ≤ to → gather f to ≡ gather f from ++ rowsIn f from to
+rows-join f from to l =
+    ap (gather f) (let e : to ≡ from + (to - from) = omega arith in e) ∙ rows-after f from (to - from)
+
+-- two tests that agree in a range
+pub rows-same : (f g : ℕ → Bool) (from to : ℕ) → ((w : ℕ) → from ≤ w → w < to → f w ≡ g w)
+    → rowsIn f from to ≡ rowsIn g from to
+rows-same f g from to h =
+    rows-ext from (λ k. f (from + k)) (λ k. g (from + k)) (to - from)
+    (λ i l. h (from + i) (omega arith) (omega arith))
+
+-- ── the loop ──
+-- the rows of the first i places are appended, and next is the place after them
+pub record Scanning (from : ℕ) (f : ℕ → Bool) (k : ℕ) (d : List ℕ) (place : ℕ) (out : List ℕ) (next i : ℕ)
+    : Type 0 where
+  pub index : i ≤ k
+  pub appends : Appended (rowsFrom from f i) d place next out
+
+module _ {from : ℕ} {f : ℕ → Bool} {k : ℕ} {d : List ℕ} {place : ℕ} where
+  pub scan-start : Scanning from f k d place d place 0
+  scan-start = record { index = omega arith; appends = appended-as (sym (rows-none from f)) (appended-none d place) }
+
+  module _ (asks : ScanIn from f k d place) {out : List ℕ} {next i : ℕ}
+      (s : Scanning from f k d place out next i) where
+    pub scan-length : length out ≡ length d
+    scan-length = appended-length (s .appends) (omega (arith, asks .room, rows-grow from f i k (s .index)))
+
+    one-more : f i ≡ true → length (rowsFrom from f (i + 1)) ≡ length (rowsFrom from f i) + 1
+    one-more e = ap length (rows-yes from f i e) ∙ length-append (rowsFrom from f i) ((from + i) ∷ [])
+
+    inside : i < k → f i ≡ true → next < length d
+    inside less e =
+        omega (arith, s .appends .many, asks .room, one-more e, rows-grow from f (i + 1) k (omega arith))
+
+    -- there is a place for a row that passes
+    pub scan-place : i < k → f i ≡ true → next < length out
+    scan-place less e = omega (arith, inside less e, scan-length)
+
+    module _ (less : i < k) {after : List ℕ} {then : ℕ} where
+      -- a row that does not pass
+      pub scan-no : f i ≡ false → after ≡ out → then ≡ next → Scanning from f k d place after then (i + 1)
+      scan-no e p q =
+          subst₂ (λ (o : List ℕ) (m : ℕ). Scanning from f k d place o m (i + 1)) (sym p) (sym q)
+          (record { index = omega arith; appends = appended-as (sym (rows-no from f i e)) (s .appends) })
+
+      -- a row that passes
+      pub scan-yes : f i ≡ true → after ≡ set out next (from + i) → then ≡ next + 1
+          → Scanning from f k d place after then (i + 1)
+      scan-yes e p q =
+          subst₂ (λ (o : List ℕ) (m : ℕ). Scanning from f k d place o m (i + 1)) (sym p) (sym q)
+          (record {
+            index = omega arith;
+            appends = appended-as (sym (rows-yes from f i e)) (appended-more (from + i) (s .appends) (inside less e));
+          })
+
+    pub scan-done : k ≤ i → Appended (rowsFrom from f k) d place next out
+    scan-done h =
+        subst (λ (j : ℕ). Appended (rowsFrom from f j) d place next out)
+        (let e : i ≡ k = omega (arith, s .index) in e) (s .appends)
+
+-- ── a range, scanned as a part of the columns ──
+-- k places of a part are the rows of the range, and pass the part's test exactly if they fit
+module _ {kind name out : List ℕ} {from to wk wn place : ℕ} (asks : RangeIn kind name from to wk wn out place)
+    {g : ℕ → Bool} {k : ℕ} (count : k ≡ to - from)
+    (same : (i : ℕ) → i < to - from → g i ≡ fits wk wn kind name (from + i)) where
+  range-rows : rowsFrom from g k ≡ rowsIn (fits wk wn kind name) from to
+  range-rows = ap (rowsFrom from g) count ∙ rows-ext from g (λ i. fits wk wn kind name (from + i)) (to - from) same
+
+  pub range-asks : to < 2 ^ 64 → ScanIn from g k out place
+  range-asks l = record {
+    numbers = omega (arith, asks .order);
+    room = omega (arith, asks .room, ap length range-rows);
+  }
+
+  pub range-gives : {r : ℕ} {new : List ℕ} → Appended (rowsFrom from g k) out place r new
+      → Appended (rowsIn (fits wk wn kind name) from to) out place r new
+  range-gives h = appended-as range-rows h
+
+-- a part of a column that has the range is as long as the range
+pub part-length : (column : List ℕ) (from to : ℕ) → to ≤ length column
+    → length (take (to - from) (drop from column)) ≡ to - from
+part-length column from to l = simp (length-take, length-drop) (omega arith)
+
+-- ── a range of at most one row ──
+rows-empty : (f : ℕ → Bool) (from to : ℕ) → to ≤ from → rowsIn f from to ≡ []
+rows-empty f from to l =
+    ap (rowsFrom from (λ k. f (from + k))) (let e : to - from ≡ 0 = omega arith in e)
+    ∙ rows-none from (λ k. f (from + k))
+
+rows-one : (f : ℕ → Bool) (from to : ℕ) → from < to → to ≤ from + 1 → rowsIn f from to ≡ only (f from) from
+rows-one f from to l m =
+    ap (rowsFrom from (λ k. f (from + k))) (let e : to - from ≡ 1 = omega arith in e)
+    ∙ rows-suc from (λ k. f (from + k)) 0
+    ∙ ap (λ (xs : List ℕ). xs ++ only (f (from + 0)) (from + 0)) (rows-none from (λ k. f (from + k)))
+    ∙ ap (λ (w : ℕ). only (f w) w) (add-zero from)
+
+module _ {kind name out : List ℕ} {from to wk wn place : ℕ} (asks : RangeIn kind name from to wk wn out place) where
+  -- no row
+  pub one-none : to ≤ from → Appended (rowsIn (fits wk wn kind name) from to) out place place out
+  one-none l = appended-as (sym (rows-empty (fits wk wn kind name) from to l)) (appended-none out place)
+
+  module _ (less : from < to) (most : to ≤ from + 1) where
+    the-row : rowsIn (fits wk wn kind name) from to ≡ only (fits wk wn kind name from) from
+    the-row = rows-one (fits wk wn kind name) from to less most
+
+    -- a row that does not fit
+    pub one-no : fits wk wn kind name from ≡ false
+        → Appended (rowsIn (fits wk wn kind name) from to) out place place out
+    one-no e = appended-as (sym (the-row ∙ only-none (fits wk wn kind name from) from e)) (appended-none out place)
+
+    fitting : fits wk wn kind name from ≡ true → rowsIn (fits wk wn kind name) from to ≡ from ∷ []
+    fitting e = the-row ∙ only-one (fits wk wn kind name from) from e
+
+    -- there is a place for a row that fits
+    pub one-place : fits wk wn kind name from ≡ true → place < length out
+    one-place e = omega (arith, asks .room, ap length (fitting e))
+
+    -- a row that fits
+    pub one-yes : fits wk wn kind name from ≡ true
+        → Appended (rowsIn (fits wk wn kind name) from to) out place (place + 1) (set out place from)
+    one-yes e = appended-as (sym (fitting e)) (appended-more from (appended-none out place) (one-place e))

@@ -1,0 +1,90 @@
+-- `span::ranges::first_after` meets its contract. The invariant: first is the least row after one of the first i
+-- contexts. Assumes nothing.
+use mathlib.Core.Path.{_≡_, ap, _∙_}
+use Prim.Native.Nat.{_+_, _-_, _<_, _≤_}
+use native.Mathlib.Nat.{le-antisymm}
+use native.Mathlib.Omega.{arith}
+use borrow.Author.Needs.{needs}
+use lib.ListN.{length}
+use Rattle.tree.specs.Table.{at}
+use Rattle.span.specs.Range.{firstAfter}
+use Rattle.span.proofs.SideLaws.{after-none, after-more}
+use Rattle.span.proofs.ranges.first_after.Statement.{statement}
+use Rattle.span.proofs.ranges.first_after.Tie as tie
+
+abbrev Inv-loop : tie.InvT-loop
+Inv-loop size count rows first₀ i₀ first i = (i ≤ length rows) × (first ≡ firstAfter size count rows i)
+
+abbrev μ-loop : tie.MeasureT-loop
+μ-loop size count rows first₀ i₀ first i = length rows - i
+
+abbrev head : tie.At-loop Inv-loop μ-loop → tie.Start Inv-loop μ-loop
+head s = s .before .before .before
+
+-- the context's descendants are rows in use, of which there are few
+inside : (c : tie.In-loop Inv-loop μ-loop) → (let a = head (c .before) .args in
+    let w = at (a .rows .now) (c .before .loop .i) in
+    (w + at (a .size .now) w < a .count) × (a .count ≤ 4096) × (a .count ≤ length (a .size .now)))
+inside c =
+    let p = head (c .before) .pre in
+    (p .inside (c .before .loop .i) (c .loop-test .taken), p .few, p .in-size)
+
+loop-holds : tie.Need-loop-holds Inv-loop μ-loop
+loop-holds c = (omega arith, after-none _ _ _)
+
+mul-c : tie.Need-mul-c Inv-loop μ-loop
+mul-c c = search needs
+
+shared-slice-read-c : tie.Need-shared-slice-read-c Inv-loop μ-loop
+shared-slice-read-c c = search needs
+
+mul-earlier : tie.Need-mul-earlier Inv-loop μ-loop
+mul-earlier c = omega (arith, inside (c .before))
+
+shared-slice-read-earlier : tie.Need-shared-slice-read-earlier Inv-loop μ-loop
+shared-slice-read-earlier c = omega (arith, inside (c .before .before))
+
+add-earlier : tie.Need-add-earlier Inv-loop μ-loop
+add-earlier c = omega (arith, inside (c .before .before))
+
+add-earlier-2 : tie.Need-add-earlier-2 Inv-loop μ-loop
+add-earlier-2 c = omega (arith, inside (c .before .before))
+
+earlier-requires : tie.Need-earlier-requires Inv-loop μ-loop
+earlier-requires c κs = search needs
+
+add-i : tie.Need-add-i Inv-loop μ-loop
+add-i c = search needs
+
+loop-less : tie.Need-loop-less Inv-loop μ-loop
+loop-less c = search needs
+
+loop-again : tie.Need-loop-again Inv-loop μ-loop
+loop-again c =
+    let s = c .before .before .before .before in
+    (omega arith, after-more _ _ _ (s .loop .i) (s .loop .inv .1) (c .earlier .ensures))
+
+returns : tie.Need-returns Inv-loop μ-loop
+returns c =
+    let s = c .before in
+    let e : s .loop .i ≡ length (head s .args .rows .now) = le-antisymm (s .loop .inv .0) (c .loop-test .left) in
+    s .loop .inv .1 ∙ ap (firstAfter _ _ _) e
+
+pub first-after-spec : {M : Type 1} → statement M
+first-after-spec =
+    tie.close
+    (tie.spec
+    Inv-loop
+    μ-loop
+    loop-holds
+    mul-c
+    shared-slice-read-c
+    mul-earlier
+    shared-slice-read-earlier
+    add-earlier
+    add-earlier-2
+    earlier-requires
+    add-i
+    loop-less
+    loop-again
+    returns)

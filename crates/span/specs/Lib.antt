@@ -1,0 +1,3 @@
+pub mod Want
+pub mod Reach
+pub mod Range

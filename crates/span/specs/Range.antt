@@ -1,0 +1,62 @@
+-- The rows of a range that pass a test, and a result column to which they are appended: what the scans ask for and
+-- leave. Then what the searches for the ends of ranges ask for and answer. Assumes nothing.
+use Prim.Native.Nat.{ℕ, zero, suc, _+_, _-_, _^_, _<_, _≤_, min}
+use mathlib.Core.Path.{_≡_}
+use mathlib.Core.Bool.{Bool}
+use mathlib.Core.List.{List, [], _++_}
+use lib.ListN.{length, take, drop}
+use Rattle.tree.specs.Search.{only}
+use Rattle.tree.specs.Table.{at}
+use Rattle.tree.specs.Outcome.{overwritten}
+use Rattle.span.specs.Want.{fits}
+
+-- of the k rows from a row on, those whose place among them passes, ascending
+unfoldable pub rowsFrom : ℕ → (ℕ → Bool) → ℕ → List ℕ
+rowsFrom from f zero = []
+rowsFrom from f (suc k) = rowsFrom from f k ++ only (f k) (from + k)
+
+-- the rows from a row on, and before another, that pass, ascending
+abbrev pub rowsIn : (ℕ → Bool) → ℕ → ℕ → List ℕ
+rowsIn f from to = rowsFrom from (λ k. f (from + k)) (to - from)
+
+-- a column that held old holds xs from a place on now, and r is the place after them
+pub record Appended (xs old : List ℕ) (place r : ℕ) (new : List ℕ) : Type 0 where
+  pub many : r ≡ place + length xs
+  pub holds : new ≡ take place old ++ overwritten xs (drop place old)
+
+-- a scan of a part of the columns, k rows from a row on, has room for those that pass
+pub record ScanIn (from : ℕ) (f : ℕ → Bool) (k : ℕ) (out : List ℕ) (place : ℕ) : Type 0 where
+  pub numbers : from + k < 2 ^ 64
+  pub room : place + length (rowsFrom from f k) ≤ length out
+
+-- the rows of a range are in the columns, and there is room for those that fit
+pub record RangeIn (kind name : List ℕ) (from to wantKind wantName : ℕ) (out : List ℕ) (place : ℕ) : Type 0 where
+  pub order : from ≤ to
+  pub in-kind : to ≤ length kind
+  pub in-name : to ≤ length name
+  pub room : place + length (rowsIn (fits wantKind wantName kind name) from to) ≤ length out
+
+-- the descendants of each context are rows in use
+pub record EndsIn (size : List ℕ) (n : ℕ) (cs : List ℕ) : Type 0 where
+  pub few : n ≤ 4096
+  pub in-size : n ≤ length size
+  pub inside : (i : ℕ) → i < length cs → at cs i + at size (at cs i) < n
+
+-- the least row that comes after one of the first k contexts and its descendants, or n
+unfoldable pub firstAfter : List ℕ → ℕ → List ℕ → ℕ → ℕ
+firstAfter size n cs zero = n
+firstAfter size n cs (suc k) = min (firstAfter size n cs k) (at cs k + at size (at cs k) + 1)
+
+-- subtrees are rows in use, and lie in each other or apart
+pub record Nests (size : List ℕ) (n : ℕ) : Type 0 where
+  pub few : n ≤ 4096
+  pub in-size : n ≤ length size
+  pub inside : (w : ℕ) → w < n → w + at size w < n
+  pub within : (v w : ℕ) → v < n → v < w → w ≤ v + at size v → w + at size w ≤ v + at size v
+
+-- the rows from w on, and before r, have ended before row c, and r has not
+pub record Ended (size : List ℕ) (c w r : ℕ) : Type 0 where
+  pub from : w ≤ r
+  pub to : r ≤ c
+  pub ended : (v : ℕ) → w ≤ v → v < r → v + at size v < c
+  pub holds : c ≤ r + at size r
