@@ -1,4 +1,4 @@
-//! Links the static library that `tools/staticlib` writes at the root of the repository.
+//! Links the static library that `make library` writes at the root of the repository.
 
 use std::env;
 use std::fs;
@@ -10,7 +10,7 @@ fn main() {
     let library = folder.join("libreach_c.a");
     println!("cargo:rerun-if-changed={}", library.display());
     let Ok(archive) = fs::read(&library) else {
-        panic!("target/staticlib/libreach_c.a is missing: run `tools/staticlib` first");
+        panic!("target/staticlib/libreach_c.a is missing: run `make library` first");
     };
     let target = env::var("CARGO_CFG_TARGET_ARCH").expect("cargo names the processor");
     assert!(

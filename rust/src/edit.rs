@@ -28,7 +28,8 @@ pub struct Edited {
     pub count: usize,
     /// The first row that moved, in old numbering; the old count where none did.
     pub first_moved_row: usize,
-    /// By how many rows it moved, negative for a deletion.
+    /// By how many rows it moved, negative for a deletion, 0 for a rename. An edit at the very end,
+    /// where no row moves, answers it too.
     pub moved: i64,
 }
 

@@ -22,7 +22,7 @@ pub fn deep(rows: usize) -> Columns {
 }
 
 /// Elements at these levels, named by their level.
-pub fn from_levels(level: Vec<usize>) -> Columns {
+fn from_levels(level: Vec<usize>) -> Columns {
     let count = level.len();
     Columns {
         key: (0..count).map(scattered_key).collect(),

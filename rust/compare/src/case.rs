@@ -13,7 +13,7 @@ pub struct Columns {
 }
 
 /// The names of the five columns, in their order.
-pub const COLUMN_NAMES: [&str; 5] = ["key", "size", "level", "kind", "name"];
+const COLUMN_NAMES: [&str; 5] = ["key", "size", "level", "kind", "name"];
 
 impl Columns {
     pub fn each(&self) -> [&Vec<usize>; 5] {

@@ -17,7 +17,7 @@ pub enum Part {
 pub struct Options {
     pub engine: String,
     pub seed: u64,
-    /// About how many calls to make in all; the default run makes as many as the rules ask for.
+    /// About how many calls to make in all; the default run makes as many as each part's constant says.
     pub calls: Option<u64>,
     pub only: Option<Part>,
 }
@@ -42,9 +42,7 @@ impl Options {
         }
         Ok(options)
     }
-}
 
-impl Options {
     /// Whether a part is asked for; without a choice, every part is.
     pub fn chooses(&self, part: Part) -> bool {
         self.only.is_none_or(|only| only == part)

@@ -49,7 +49,7 @@ fn levels(random: &mut Random, rows: usize, deepest: usize) -> Vec<usize> {
 }
 
 /// The sizes that belong to the levels.
-pub fn sizes(level: &[usize]) -> Vec<usize> {
+fn sizes(level: &[usize]) -> Vec<usize> {
     let run = |row: usize| level[row + 1..].iter().take_while(move |&&other| other > level[row]);
     (0..level.len()).map(|row| run(row).count()).collect()
 }
@@ -66,7 +66,7 @@ fn kinds(random: &mut Random, size: &[usize]) -> Vec<usize> {
 }
 
 /// A name that fits the kind: few different ones, so that tests by name find some.
-pub fn name_for(random: &mut Random, kind: usize) -> usize {
+fn name_for(random: &mut Random, kind: usize) -> usize {
     match kind {
         1 | 4 => match random.below(20) {
             0 => usize::MAX,

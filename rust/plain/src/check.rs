@@ -80,6 +80,7 @@ fn all_sound<const SLOTS: usize>(
     }
     end_at[..=open].iter().all(|&end| end == count)
 }
+
 /// Whether kind, name and size fit each other below row 0.
 #[inline(always)]
 fn fits(kind: usize, name: usize, size: usize) -> bool {

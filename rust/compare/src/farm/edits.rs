@@ -1,4 +1,4 @@
-//! The stated edits: M9, M10 and M11, and each refusal of an edit once.
+//! The stated edits: M9, M10 and M11, and each refusal of an edit.
 
 use super::farm;
 use crate::case::{Answer, Call, Case, Columns, Insert};
