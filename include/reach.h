@@ -7,9 +7,8 @@
  *
  * Who owns what. Every column is the caller's, before, during and after the call: the library keeps no pointer,
  * allocates nothing, holds no state, and may be called from several threads at once, as long as no column that one
- * call may write is lent to another. A column passed as `const size_t *` is only read. A column passed as `size_t
- * *` may be written, and is left as it was, in every element, when the call is refused. A call needs less than 128
- * KB of stack.
+ * call may write is lent to another. A column passed as a pointer to const is only read. Any other may be written,
+ * and is left as it was, in every element, when the call is refused. A call needs less than 128 KB of stack.
  *
  * No input needs checking first: a bad table, pair, code or key gets a refusal. Two duties remain with the caller,
  * as for any C function: a pointer is never null (also at length 0) and reaches as many elements as the length
