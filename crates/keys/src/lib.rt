@@ -1,12 +1,13 @@
-// The row of a key, the least row whose key is bad, and the least row of a piece whose key is taken, by rows chained in
-// buckets.
+// The row of a key, the least row whose key is bad, and the least row of a piece whose key is taken, by rows chained
+// in buckets. The column heads has one more than the last row of each bucket, next one more than the row before a row
+// in its bucket, and 0 is none.
 ghost use mathlib.Core.Path.{_≡_};
 ghost use Prim.Native.Nat.{_<_, _≤_};
 ghost use lib.ListN.{length};
 ghost use lib.Dec.{eqb};
 ghost use Rattle.tree.specs.Sound.{rowOf};
 ghost use Rattle.keys.specs.First.{firstKey, firstClash};
-ghost use Rattle.keys.specs.Chain.{bucketOf, Chained};
+ghost use Rattle.keys.specs.Chain.{bucketOf, Room, Chained};
 
 // The least of the first n rows with the key x, or n.
 pub fn row_of(key: &[usize], n: usize, x: usize) -> usize
@@ -23,20 +24,22 @@ pub fn row_of(key: &[usize], n: usize, x: usize) -> usize
     k
 }
 
-// The bucket of a key.
-fn bucket(x: usize) -> usize
-    ensures { λ r. ⌜ (r ≡ bucketOf x) × (r < 16384) ⌝ }
+// The bucket of a key. The number of buckets is known wherever this is inlined, so no division is left.
+fn bucket(x: usize, buckets: usize) -> usize
+    requires { ⌜ 0 < buckets ⌝ }
+    ensures { λ r. ⌜ (r ≡ bucketOf buckets x) × (r < buckets) ⌝ }
 {
-    x % 16381
+    x % buckets
 }
 
 // Whether no row below i has the key x: a walk along the chain of x's bucket.
-fn fresh(key: &[usize], heads: &[u16; 16384], next: &[u16; 4096], i: usize, x: usize) -> bool
-    requires { ⌜ (i ≤ 4096) × (i ≤ length (now key)) ⌝ }
-    requires { ⌜ Chained (now key) (now heads) (now next) i ⌝ }
+fn fresh(key: &[usize], heads: &[u16], next: &[u16], buckets: usize, i: usize, x: usize) -> bool
+    requires { ⌜ i ≤ length (now key) ⌝ }
+    requires { ⌜ Room (now heads) (now next) buckets i ⌝ }
+    requires { ⌜ Chained buckets (now key) (now heads) (now next) i ⌝ }
     ensures { λ r. ⌜ r ≡ eqb (rowOf (now (key .entry)) i x) i ⌝ }
 {
-    let b = bucket(x);
+    let b = bucket(x, buckets);
     let mut r = heads[b] as usize;
     while 0 < r {
         let j = r - 1;
@@ -48,24 +51,24 @@ fn fresh(key: &[usize], heads: &[u16; 16384], next: &[u16; 4096], i: usize, x: u
     true
 }
 
-// The least of the first n rows whose key is 0 or that of an earlier row, or n. The time is that of the rows, on
-// keys that spread over the buckets; on others it grows with the longest chain.
-pub fn first_key(key: &[usize], n: usize) -> usize
-    requires { ⌜ (n ≤ 4096) × (n ≤ length (now key)) ⌝ }
+// The least of the first n rows whose key is 0 or that of an earlier row, or n. No row is chained at first; the rows
+// before the answer are at the end.
+fn first_in(key: &[usize], n: usize, heads: &mut [u16], next: &mut [u16], buckets: usize) -> usize
+    requires { ⌜ n ≤ length (now key) ⌝ }
+    requires { ⌜ Room (now heads) (now next) buckets n ⌝ }
+    requires { ⌜ Chained buckets (now key) (now heads) (now next) 0 ⌝ }
     ensures { λ r. ⌜ r ≡ firstKey (now (key .entry)) n ⌝ }
 {
-    let mut heads = [0u16; 16384];
-    let mut next = [0u16; 4096];
     let mut i = 0;
     while i < n {
         let x = key[i];
         if x == 0 {
             return i;
         }
-        if !fresh(key, &heads, &next, i, x) {
+        if !fresh(key, heads, next, buckets, i, x) {
             return i;
         }
-        let b = bucket(x);
+        let b = bucket(x, buckets);
         next[i] = heads[b];
         heads[b] = (i + 1) as u16;
         i += 1;
@@ -73,16 +76,37 @@ pub fn first_key(key: &[usize], n: usize) -> usize
     i
 }
 
-// Chains the first n rows, without a test of their keys.
-fn chain(key: &[usize], heads: &mut [u16; 16384], next: &mut [u16; 4096], n: usize)
+// The same in columns of its own, cleared at each call and so no longer than the rows ask for. The time is that of the
+// rows, on keys that spread over the buckets; on others it grows with the longest chain.
+pub fn first_key(key: &[usize], n: usize) -> usize
     requires { ⌜ (n ≤ 4096) × (n ≤ length (now key)) ⌝ }
-    requires { ⌜ (length (now heads) ≡ 16384) × (length (now next) ≡ 4096) ⌝ }
-    requires { ⌜ Chained (now key) (now heads) (now next) 0 ⌝ }
-    ensures { λ _. ⌜ Chained (now (key .entry)) (now (heads .exit)) (now (next .exit)) n ⌝ }
+    ensures { λ r. ⌜ r ≡ firstKey (now (key .entry)) n ⌝ }
+{
+    if n <= 64 {
+        let mut heads = [0u16; 256];
+        let mut next = [0u16; 64];
+        return first_in(key, n, &mut heads, &mut next, 241);
+    }
+    if n <= 512 {
+        let mut heads = [0u16; 2048];
+        let mut next = [0u16; 512];
+        return first_in(key, n, &mut heads, &mut next, 2029);
+    }
+    let mut heads = [0u16; 16384];
+    let mut next = [0u16; 4096];
+    first_in(key, n, &mut heads, &mut next, 16381)
+}
+
+// Chains the first n rows, without a test of their keys.
+fn chain(key: &[usize], n: usize, heads: &mut [u16], next: &mut [u16], buckets: usize)
+    requires { ⌜ n ≤ length (now key) ⌝ }
+    requires { ⌜ Room (now heads) (now next) buckets n ⌝ }
+    requires { ⌜ Chained buckets (now key) (now heads) (now next) 0 ⌝ }
+    ensures { λ _. ⌜ Chained buckets (now (key .entry)) (now (heads .exit)) (now (next .exit)) n ⌝ }
 {
     let mut i = 0;
     while i < n {
-        let own = bucket(key[i]);
+        let own = bucket(key[i], buckets);
         next[i] = heads[own];
         heads[own] = (i + 1) as u16;
         i += 1;
@@ -105,23 +129,52 @@ fn clash_by_rows(key: &[usize], n: usize, piece: &[usize], m: usize) -> usize
     i
 }
 
-// The same by the chains of the first n rows, in time linear in both.
-fn clash_by_chains(key: &[usize], n: usize, piece: &[usize], m: usize) -> usize
-    requires { ⌜ (n ≤ 4096) × (n ≤ length (now key)) ⌝ }
+// The same by the chains of the first n rows. No row is chained at first.
+fn clash_in(
+    key: &[usize],
+    n: usize,
+    piece: &[usize],
+    m: usize,
+    heads: &mut [u16],
+    next: &mut [u16],
+    buckets: usize,
+) -> usize
+    requires { ⌜ n ≤ length (now key) ⌝ }
     requires { ⌜ m ≤ length (now piece) ⌝ }
+    requires { ⌜ Room (now heads) (now next) buckets n ⌝ }
+    requires { ⌜ Chained buckets (now key) (now heads) (now next) 0 ⌝ }
     ensures { λ r. ⌜ r ≡ firstClash (now (key .entry)) n (now (piece .entry)) m ⌝ }
 {
-    let mut heads = [0u16; 16384];
-    let mut next = [0u16; 4096];
-    chain(key, &mut heads, &mut next, n);
+    chain(key, n, heads, next, buckets);
     let mut i = 0;
     while i < m {
-        if !fresh(key, &heads, &next, n, piece[i]) {
+        if !fresh(key, heads, next, buckets, n, piece[i]) {
             return i;
         }
         i += 1;
     }
     i
+}
+
+// The same in columns of its own, as first_key has them, in time linear in both.
+fn clash_by_chains(key: &[usize], n: usize, piece: &[usize], m: usize) -> usize
+    requires { ⌜ (n ≤ 4096) × (n ≤ length (now key)) ⌝ }
+    requires { ⌜ m ≤ length (now piece) ⌝ }
+    ensures { λ r. ⌜ r ≡ firstClash (now (key .entry)) n (now (piece .entry)) m ⌝ }
+{
+    if n <= 64 {
+        let mut heads = [0u16; 256];
+        let mut next = [0u16; 64];
+        return clash_in(key, n, piece, m, &mut heads, &mut next, 241);
+    }
+    if n <= 512 {
+        let mut heads = [0u16; 2048];
+        let mut next = [0u16; 512];
+        return clash_in(key, n, piece, m, &mut heads, &mut next, 2029);
+    }
+    let mut heads = [0u16; 16384];
+    let mut next = [0u16; 4096];
+    clash_in(key, n, piece, m, &mut heads, &mut next, 16381)
 }
 
 // The same by the way that is faster for the piece.

@@ -6,9 +6,12 @@ use borrow.Author.Needs.{needs}
 use Rattle.keys.proofs.bucket.Statement.{statement}
 use Rattle.keys.proofs.bucket.Tie as tie
 
+rem-result : tie.Need-rem-result
+rem-result c = search needs
+
 returns : tie.Need-returns
 unfolding bucketOf
-returns c = (refl, bucket-lt _)
+returns c = (refl, bucket-lt _ _ (search needs))
 
 pub bucket-spec : {M : Type 1} → statement M
-bucket-spec = tie.close (tie.spec returns)
+bucket-spec = tie.close (tie.spec rem-result returns)

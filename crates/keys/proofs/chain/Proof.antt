@@ -11,14 +11,14 @@ use Rattle.keys.proofs.chain.Statement.{statement}
 use Rattle.keys.proofs.chain.Tie as tie
 
 abbrev Inv-loop : tie.InvT-loop
-Inv-loop key heads₀ next₀ n i₀ heads next i =
-    (i ≤ n) × (length heads ≡ 16384) × (length next ≡ 4096) × Chained key heads next i
+Inv-loop key n heads₀ next₀ buckets i₀ heads next i =
+    (i ≤ n) × (length heads ≡ length heads₀) × (length next ≡ length next₀) × Chained buckets key heads next i
 
 abbrev μ-loop : tie.MeasureT-loop
-μ-loop key heads₀ next₀ n i₀ heads next i = n - i
+μ-loop key n heads₀ next₀ buckets i₀ heads next i = n - i
 
 loop-holds : tie.Need-loop-holds Inv-loop μ-loop
-loop-holds c = let pre = c .before .pre in (search needs, pre .1 .0 .0, pre .1 .0 .1, pre .1 .1)
+loop-holds c = search needs
 
 mul-bucket : tie.Need-mul-bucket Inv-loop μ-loop
 mul-bucket c = search needs
@@ -32,14 +32,14 @@ bucket-requires c κs = search needs
 mul-next : tie.Need-mul-next Inv-loop μ-loop
 mul-next c = search needs
 
-element-copy-out-next : tie.Need-element-copy-out-next Inv-loop μ-loop
-element-copy-out-next c = search needs
+slice-read-next : tie.Need-slice-read-next Inv-loop μ-loop
+slice-read-next c = search needs
 
 mul-next-2 : tie.Need-mul-next-2 Inv-loop μ-loop
 mul-next-2 c = search needs
 
-element-write-next : tie.Need-element-write-next Inv-loop μ-loop
-element-write-next c = search needs
+slice-write-next : tie.Need-slice-write-next Inv-loop μ-loop
+slice-write-next c = search needs
 
 add-heads : tie.Need-add-heads Inv-loop μ-loop
 add-heads c = search needs
@@ -50,8 +50,8 @@ cast-heads c = search needs
 mul-heads : tie.Need-mul-heads Inv-loop μ-loop
 mul-heads c = search needs
 
-element-write-heads : tie.Need-element-write-heads Inv-loop μ-loop
-element-write-heads c = search needs
+slice-write-heads : tie.Need-slice-write-heads Inv-loop μ-loop
+slice-write-heads c = search needs
 
 add-i : tie.Need-add-i Inv-loop μ-loop
 add-i c = search needs
@@ -65,8 +65,15 @@ loop-again c =
       search needs,
       simp length-set (at .inv .1),
       simp length-set (at .inv .2),
-      rw (c .before .bucket .ensures .0) (chained-more _ _ _ (at .i) (at .inv .1) (omega arith) (at .inv .3)),
+      rw (c .before .bucket .ensures .0)
+          (chained-more _ _ _ _ (at .i) (omega arith) (omega arith) (omega arith) (at .inv .3)),
     )
+
+same-length : tie.Need-same-length Inv-loop μ-loop
+same-length c = search needs
+
+same-length-2 : tie.Need-same-length-2 Inv-loop μ-loop
+same-length-2 c = search needs
 
 returns : tie.Need-returns Inv-loop μ-loop
 returns c =
@@ -83,14 +90,16 @@ chain-spec =
     shared-slice-read-bucket
     bucket-requires
     mul-next
-    element-copy-out-next
+    slice-read-next
     mul-next-2
-    element-write-next
+    slice-write-next
     add-heads
     cast-heads
     mul-heads
-    element-write-heads
+    slice-write-heads
     add-i
     loop-less
     loop-again
+    same-length
+    same-length-2
     returns)

@@ -1,84 +1,62 @@
--- `keys::clash_by_chains` meets its contract: no key of the piece's rows below i is taken. Assumes nothing.
-use Prim.Native.Nat.{ℕ, _≤_, _<_, _-_}
-use mathlib.Core.Path.{_≡_, sym, _∙_}
-use mathlib.Core.Bool.{false}
-use lib.Dec.{ltb}
-use lib.ListN.{length-replicate}
-use borrow.Author.Count.{below-more, below-none}
-use borrow.Author.Tests.{not-true, not-false}
-use Rattle.tree.specs.Table.{at}
-use Rattle.tree.specs.Sound.{rowOf}
-use Rattle.tree.proofs.SearchLaws.{least-at, least-end}
-use Rattle.keys.specs.Chain.{Chained}
-use Rattle.keys.proofs.KeyLaws.{chained-none, clash-taken, clash-none}
+-- `keys::clash_by_chains` meets its contract: columns of zeros serve, at each of the three sizes. Assumes nothing.
+use native.Mathlib.Omega.{arith}
+use Rattle.keys.proofs.KeyLaws.{cleared}
 use borrow.Author.Needs.{needs}
 use Rattle.keys.proofs.clash_by_chains.Statement.{statement}
 use Rattle.keys.proofs.clash_by_chains.Tie as tie
 
-abbrev Inv-loop : tie.InvT-loop
-Inv-loop key n piece m heads next i₀ i =
-    (i ≤ m) × Chained key heads next n × ((j : ℕ) → j < i → ltb (rowOf key n (at piece j)) n ≡ false)
+slice-aggregate-clash-in : tie.Need-slice-aggregate-clash-in
+slice-aggregate-clash-in c = search needs
 
-abbrev μ-loop : tie.MeasureT-loop
-μ-loop key n piece m heads next i₀ i = m - i
+slice-aggregate-clash-in-2 : tie.Need-slice-aggregate-clash-in-2
+slice-aggregate-clash-in-2 c = search needs
 
-chain-requires : tie.Need-chain-requires Inv-loop μ-loop
-chain-requires c κs = (
-  c .before .before .before .before .pre .0,
-  (
-    (length-replicate {A = ℕ} 16384 0, length-replicate {A = ℕ} 4096 0),
-    chained-none _,
-  ),
-)
+clash-in-requires : tie.Need-clash-in-requires
+clash-in-requires c κs =
+    (search needs, (search needs, cleared _ 256 64 _ _ (omega arith) (omega arith) (omega arith) (omega arith)))
 
-loop-holds : tie.Need-loop-holds Inv-loop μ-loop
-loop-holds c = (search needs, c .chain .ensures, below-none _)
+returns : tie.Need-returns
+returns c = search needs
 
-mul-fresh : tie.Need-mul-fresh Inv-loop μ-loop
-mul-fresh c = search needs
+slice-aggregate-clash-in-3 : tie.Need-slice-aggregate-clash-in-3
+slice-aggregate-clash-in-3 c = search needs
 
-shared-slice-read-fresh : tie.Need-shared-slice-read-fresh Inv-loop μ-loop
-shared-slice-read-fresh c = search needs
+slice-aggregate-clash-in-4 : tie.Need-slice-aggregate-clash-in-4
+slice-aggregate-clash-in-4 c = search needs
 
-fresh-requires : tie.Need-fresh-requires Inv-loop μ-loop
-fresh-requires c κs = (search needs, c .before .before .before .before .loop .inv .1)
+clash-in-requires-2 : tie.Need-clash-in-requires-2
+clash-in-requires-2 c κs =
+    (search needs, (search needs, cleared _ 2048 512 _ _ (omega arith) (omega arith) (omega arith) (omega arith)))
 
-returns : tie.Need-returns Inv-loop μ-loop
-returns c =
-    sym (least-at _ _ _ (c .before .before .before .before .before .loop-test .taken)
-    (c .before .before .before .before .before .before .loop .inv .2)
-    (clash-taken _ _ _ (sym (c .before .fresh .ensures) ∙ not-true (c .before .fresh .result) (c .if1 .taken))))
+returns-2 : tie.Need-returns-2
+returns-2 c = search needs
 
-add-i : tie.Need-add-i Inv-loop μ-loop
-add-i c = search needs
+slice-aggregate-clash-in-5 : tie.Need-slice-aggregate-clash-in-5
+slice-aggregate-clash-in-5 c = search needs
 
-loop-less : tie.Need-loop-less Inv-loop μ-loop
-loop-less c = search needs
+slice-aggregate-clash-in-6 : tie.Need-slice-aggregate-clash-in-6
+slice-aggregate-clash-in-6 c = search needs
 
-loop-again : tie.Need-loop-again Inv-loop μ-loop
-loop-again c = (
-  search needs,
-  c .before .before .before .before .before .before .loop .inv .1,
-  below-more _ _ (c .before .before .before .before .before .before .loop .inv .2)
-      (clash-none _ _ _ (sym (c .before .fresh .ensures) ∙ not-false (c .before .fresh .result) (c .if1 .left))),
-)
+clash-in-requires-3 : tie.Need-clash-in-requires-3
+clash-in-requires-3 c κs =
+    (search needs, (search needs, cleared _ 16384 4096 _ _ (omega arith) (omega arith) (omega arith) (omega arith)))
 
-returns-2 : tie.Need-returns-2 Inv-loop μ-loop
-returns-2 c = least-end _ _ _ (c .before .loop .inv .0) (c .loop-test .left) (c .before .loop .inv .2)
+returns-3 : tie.Need-returns-3
+returns-3 c = search needs
 
 pub clash-by-chains-spec : {M : Type 1} → statement M
 clash-by-chains-spec =
     tie.close
     (tie.spec
-    Inv-loop
-    μ-loop
-    chain-requires
-    loop-holds
-    mul-fresh
-    shared-slice-read-fresh
-    fresh-requires
+    slice-aggregate-clash-in
+    slice-aggregate-clash-in-2
+    clash-in-requires
     returns
-    add-i
-    loop-less
-    loop-again
-    returns-2)
+    slice-aggregate-clash-in-3
+    slice-aggregate-clash-in-4
+    clash-in-requires-2
+    returns-2
+    slice-aggregate-clash-in-5
+    slice-aggregate-clash-in-6
+    clash-in-requires-3
+    returns-3)

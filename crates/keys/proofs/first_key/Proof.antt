@@ -1,127 +1,62 @@
--- `keys::first_key` meets its contract. The invariant: the rows below i are chained by bucket, and the key of
--- each is good. Assumes nothing.
-use Prim.Native.Nat.{ℕ, _≤_, _<_, _-_}
-use mathlib.Core.Path.{_≡_, sym, _∙_}
-use mathlib.Core.Bool.{not, false}
+-- `keys::first_key` meets its contract: columns of zeros serve, at each of the three sizes. Assumes nothing.
 use native.Mathlib.Omega.{arith}
-use lib.ListN.{length, length-set}
-use borrow.Author.Count.{below-more, below-none}
-use borrow.Author.Tests.{not-true, not-false}
-use Rattle.tree.proofs.SearchLaws.{least-at, least-end}
-use Rattle.keys.specs.First.{firstKey}
-use Rattle.tree.specs.Sound.{keyOk}
-use Rattle.keys.specs.Chain.{Chained}
-use Rattle.keys.proofs.KeyLaws.{chained-none, chained-more, key-zero, key-again, key-good}
+use Rattle.keys.proofs.KeyLaws.{cleared}
 use borrow.Author.Needs.{needs}
 use Rattle.keys.proofs.first_key.Statement.{statement}
 use Rattle.keys.proofs.first_key.Tie as tie
 
-abbrev Inv-loop : tie.InvT-loop
-Inv-loop key n heads₀ next₀ i₀ heads next i =
-    (i ≤ n) × (length heads ≡ 16384) × (length next ≡ 4096) × Chained key heads next i
-    × ((j : ℕ) → j < i → not (keyOk key j) ≡ false)
+slice-aggregate-first-in : tie.Need-slice-aggregate-first-in
+slice-aggregate-first-in c = search needs
 
-abbrev μ-loop : tie.MeasureT-loop
-μ-loop key n heads₀ next₀ i₀ heads next i = n - i
+slice-aggregate-first-in-2 : tie.Need-slice-aggregate-first-in-2
+slice-aggregate-first-in-2 c = search needs
 
-loop-holds : tie.Need-loop-holds Inv-loop μ-loop
-loop-holds c = (search needs, search needs, search needs, chained-none _, below-none _)
+first-in-requires : tie.Need-first-in-requires
+first-in-requires c κs =
+    (search needs, cleared _ 256 64 _ _ (omega arith) (omega arith) (omega arith) (omega arith))
 
-mul-x : tie.Need-mul-x Inv-loop μ-loop
-mul-x c = search needs
+returns : tie.Need-returns
+returns c = search needs
 
-shared-slice-read-x : tie.Need-shared-slice-read-x Inv-loop μ-loop
-shared-slice-read-x c = search needs
+slice-aggregate-first-in-3 : tie.Need-slice-aggregate-first-in-3
+slice-aggregate-first-in-3 c = search needs
 
-returns : tie.Need-returns Inv-loop μ-loop
-unfolding firstKey
-returns c =
-    sym (least-at _ _ _ (c .before .before .loop-test .taken) (c .before .before .before .loop .inv .4)
-    (key-zero _ _ (c .if1 .taken)))
+slice-aggregate-first-in-4 : tie.Need-slice-aggregate-first-in-4
+slice-aggregate-first-in-4 c = search needs
 
-fresh-requires : tie.Need-fresh-requires Inv-loop μ-loop
-fresh-requires c κs = search needs
+first-in-requires-2 : tie.Need-first-in-requires-2
+first-in-requires-2 c κs =
+    (search needs, cleared _ 2048 512 _ _ (omega arith) (omega arith) (omega arith) (omega arith))
 
-returns-2 : tie.Need-returns-2 Inv-loop μ-loop
-unfolding firstKey
-returns-2 c =
-    sym (least-at _ _ _ (c .before .before .before .before .before .before .loop-test .taken)
-    (c .before .before .before .before .before .before .before .loop .inv .4)
-    (key-again _ _ (c .before .before .before .before .if1 .left)
-    (sym (c .before .fresh .ensures) ∙ not-true (c .before .fresh .result) (c .if2 .taken))))
+returns-2 : tie.Need-returns-2
+returns-2 c = search needs
 
-bucket-requires : tie.Need-bucket-requires Inv-loop μ-loop
-bucket-requires c κs = search needs
+slice-aggregate-first-in-5 : tie.Need-slice-aggregate-first-in-5
+slice-aggregate-first-in-5 c = search needs
 
-mul-next : tie.Need-mul-next Inv-loop μ-loop
-mul-next c = search needs
+slice-aggregate-first-in-6 : tie.Need-slice-aggregate-first-in-6
+slice-aggregate-first-in-6 c = search needs
 
-array-read-next : tie.Need-array-read-next Inv-loop μ-loop
-array-read-next c = search needs
+first-in-requires-3 : tie.Need-first-in-requires-3
+first-in-requires-3 c κs =
+    (search needs, cleared _ 16384 4096 _ _ (omega arith) (omega arith) (omega arith) (omega arith))
 
-mul-next-2 : tie.Need-mul-next-2 Inv-loop μ-loop
-mul-next-2 c = search needs
-
-array-write-next : tie.Need-array-write-next Inv-loop μ-loop
-array-write-next c = search needs
-
-add-heads : tie.Need-add-heads Inv-loop μ-loop
-add-heads c = search needs
-
-cast-heads : tie.Need-cast-heads Inv-loop μ-loop
-cast-heads c = search needs
-
-mul-heads : tie.Need-mul-heads Inv-loop μ-loop
-mul-heads c = search needs
-
-array-write-heads : tie.Need-array-write-heads Inv-loop μ-loop
-array-write-heads c = search needs
-
-add-i : tie.Need-add-i Inv-loop μ-loop
-add-i c = search needs
-
-loop-less : tie.Need-loop-less Inv-loop μ-loop
-loop-less c = search needs
-
-loop-again : tie.Need-loop-again Inv-loop μ-loop
-loop-again c =
-    let at = c .before .before .before .before .before .before .before .before .loop in (
-      search needs,
-      simp length-set (at .inv .1),
-      simp length-set (at .inv .2),
-      rw (c .bucket .ensures .0) (chained-more _ _ _ (at .i) (at .inv .1) (omega arith) (at .inv .3)),
-      below-more _ _ (at .inv .4)
-          (key-good _ _ (c .before .before .before .before .before .if1 .left)
-          (sym (c .before .before .fresh .ensures)
-          ∙ not-false (c .before .before .fresh .result) (c .before .if2 .left))),
-    )
-
-returns-3 : tie.Need-returns-3 Inv-loop μ-loop
-unfolding firstKey
-returns-3 c = least-end _ _ _ (c .before .loop .inv .0) (c .loop-test .left) (c .before .loop .inv .4)
+returns-3 : tie.Need-returns-3
+returns-3 c = search needs
 
 pub first-key-spec : {M : Type 1} → statement M
 first-key-spec =
     tie.close
     (tie.spec
-    Inv-loop
-    μ-loop
-    loop-holds
-    mul-x
-    shared-slice-read-x
+    slice-aggregate-first-in
+    slice-aggregate-first-in-2
+    first-in-requires
     returns
-    fresh-requires
+    slice-aggregate-first-in-3
+    slice-aggregate-first-in-4
+    first-in-requires-2
     returns-2
-    bucket-requires
-    mul-next
-    array-read-next
-    mul-next-2
-    array-write-next
-    add-heads
-    cast-heads
-    mul-heads
-    array-write-heads
-    add-i
-    loop-less
-    loop-again
+    slice-aggregate-first-in-5
+    slice-aggregate-first-in-6
+    first-in-requires-3
     returns-3)

@@ -9,10 +9,10 @@ use Rattle.keys.proofs.fresh.Statement.{statement}
 use Rattle.keys.proofs.fresh.Tie as tie
 
 abbrev Inv-loop : tie.InvT-loop
-Inv-loop key heads next i x b r₀ r = Walk key x i r
+Inv-loop key heads next buckets i x b r₀ r = Walk buckets key x i r
 
 abbrev μ-loop : tie.MeasureT-loop
-μ-loop key heads next i x b r₀ r = r
+μ-loop key heads next buckets i x b r₀ r = r
 
 bucket-requires : tie.Need-bucket-requires Inv-loop μ-loop
 bucket-requires c κs = search needs
@@ -20,20 +20,21 @@ bucket-requires c κs = search needs
 mul-r : tie.Need-mul-r Inv-loop μ-loop
 mul-r c = search needs
 
-element-copy-out-r : tie.Need-element-copy-out-r Inv-loop μ-loop
-element-copy-out-r c = search needs
+shared-slice-read-r : tie.Need-shared-slice-read-r Inv-loop μ-loop
+shared-slice-read-r c = search needs
 
 cast-r : tie.Need-cast-r Inv-loop μ-loop
 cast-r c =
+    let start = c .before .before .before .before .before in
     let w =
-    walk-start _ _ _ _ (c .before .before .before .args .x) _ (c .before .before .before .pre .1)
+    walk-start _ _ _ _ _ (start .args .x) _ (start .pre .1 .0 .some) (start .pre .1 .1)
     (c .before .bucket .ensures .0) in
     omega arith
 
 loop-holds : tie.Need-loop-holds Inv-loop μ-loop
 loop-holds c =
-    walk-start _ _ _ _ (c .before .before .before .args .x) _ (c .before .before .before .pre .1)
-    (c .before .bucket .ensures .0)
+    let start = c .before .before .before .before .before in
+    walk-start _ _ _ _ _ (start .args .x) _ (start .pre .1 .0 .some) (start .pre .1 .1) (c .before .bucket .ensures .0)
 
 sub-j : tie.Need-sub-j Inv-loop μ-loop
 sub-j c = search needs
@@ -50,30 +51,33 @@ returns c = sym (fresh-false _ _ _ (c .before .before .before .loop .r - 1) (ome
 mul-r-2 : tie.Need-mul-r-2 Inv-loop μ-loop
 mul-r-2 c = search needs
 
-element-copy-out-r-2 : tie.Need-element-copy-out-r-2 Inv-loop μ-loop
-element-copy-out-r-2 c = search needs
+shared-slice-read-r-2 : tie.Need-shared-slice-read-r-2 Inv-loop μ-loop
+shared-slice-read-r-2 c = search needs
 
 cast-r-2 : tie.Need-cast-r-2 Inv-loop μ-loop
 cast-r-2 c =
+    let head = c .before .before .before .before in
+    let start = head .before .before .before .before .before .before in
     let w =
-    walk-step _ _ _ _ _ _ (c .before .before .before .before .before .before .before .before .pre .1)
-    (c .before .before .before .before .loop .inv) (c .before .before .before .loop-test .taken)
+    walk-step _ _ _ _ _ _ _ (start .pre .1 .1) (head .loop .inv) (c .before .before .before .loop-test .taken)
     (c .before .if1 .left) in
     omega arith
 
 loop-less : tie.Need-loop-less Inv-loop μ-loop
 loop-less c =
-    walk-less _ _ _ _ _ _ (c .before .before .before .before .before .before .before .before .pre .1)
-    (c .before .before .before .before .loop .inv) (c .before .before .before .loop-test .taken)
+    let head = c .before .before .before .before in
+    let start = head .before .before .before .before .before .before in
+    walk-less _ _ _ _ _ _ _ (start .pre .1 .1) (head .loop .inv) (c .before .before .before .loop-test .taken)
 
 loop-again : tie.Need-loop-again Inv-loop μ-loop
 loop-again c =
-    walk-step _ _ _ _ _ _ (c .before .before .before .before .before .before .before .before .pre .1)
-    (c .before .before .before .before .loop .inv) (c .before .before .before .loop-test .taken)
+    let head = c .before .before .before .before in
+    let start = head .before .before .before .before .before .before in
+    walk-step _ _ _ _ _ _ _ (start .pre .1 .1) (head .loop .inv) (c .before .before .before .loop-test .taken)
     (c .before .if1 .left)
 
 returns-2 : tie.Need-returns-2 Inv-loop μ-loop
-returns-2 c = sym (fresh-true _ _ _ _ (c .loop-test .left) (c .before .loop .inv))
+returns-2 c = sym (fresh-true _ _ _ _ _ (c .loop-test .left) (c .before .loop .inv))
 
 pub fresh-spec : {M : Type 1} → statement M
 fresh-spec =
@@ -83,7 +87,7 @@ fresh-spec =
     μ-loop
     bucket-requires
     mul-r
-    element-copy-out-r
+    shared-slice-read-r
     cast-r
     loop-holds
     sub-j
@@ -91,7 +95,7 @@ fresh-spec =
     shared-slice-read-if1
     returns
     mul-r-2
-    element-copy-out-r-2
+    shared-slice-read-r-2
     cast-r-2
     loop-less
     loop-again

@@ -1,0 +1,97 @@
+-- `keys::clash_in` meets its contract: all n rows are chained, and no key of the piece's rows below i is taken.
+-- Assumes nothing.
+use Prim.Native.Nat.{ℕ, _≤_, _<_, _-_}
+use mathlib.Core.Path.{_≡_, sym, _∙_}
+use mathlib.Core.Bool.{false}
+use lib.Dec.{ltb}
+use borrow.Author.Count.{below-more, below-none}
+use borrow.Author.Tests.{not-true, not-false}
+use Rattle.tree.specs.Table.{at}
+use Rattle.tree.specs.Sound.{rowOf}
+use Rattle.tree.proofs.SearchLaws.{least-at, least-end}
+use Rattle.keys.specs.Chain.{Room, Chained}
+use Rattle.keys.proofs.KeyLaws.{clash-taken, clash-none}
+use borrow.Author.Needs.{needs}
+use Rattle.keys.proofs.clash_in.Statement.{statement}
+use Rattle.keys.proofs.clash_in.Tie as tie
+
+abbrev Inv-loop : tie.InvT-loop
+Inv-loop key n piece m heads next buckets i₀ i =
+    (i ≤ m) × Room heads next buckets n × Chained buckets key heads next n
+    × ((j : ℕ) → j < i → ltb (rowOf key n (at piece j)) n ≡ false)
+
+abbrev μ-loop : tie.MeasureT-loop
+μ-loop key n piece m heads next buckets i₀ i = m - i
+
+chain-requires : tie.Need-chain-requires Inv-loop μ-loop
+chain-requires c κs = search needs
+
+loop-holds : tie.Need-loop-holds Inv-loop μ-loop
+loop-holds c = (search needs, search needs, c .before .before .before .before .chain .ensures, below-none _)
+
+mul-fresh : tie.Need-mul-fresh Inv-loop μ-loop
+mul-fresh c = search needs
+
+shared-slice-read-fresh : tie.Need-shared-slice-read-fresh Inv-loop μ-loop
+shared-slice-read-fresh c = search needs
+
+fresh-requires : tie.Need-fresh-requires Inv-loop μ-loop
+fresh-requires c κs = search needs
+
+same-length : tie.Need-same-length Inv-loop μ-loop
+same-length c = search needs
+
+same-length-2 : tie.Need-same-length-2 Inv-loop μ-loop
+same-length-2 c = search needs
+
+returns : tie.Need-returns Inv-loop μ-loop
+returns c =
+    let body = c .before .before .before .before .before in
+    sym (least-at _ _ _ (body .loop-test .taken) (body .before .loop .inv .3)
+    (clash-taken _ _ _ (sym (c .before .fresh .ensures) ∙ not-true (c .before .fresh .result) (c .if1 .taken))))
+
+add-i : tie.Need-add-i Inv-loop μ-loop
+add-i c = search needs
+
+loop-less : tie.Need-loop-less Inv-loop μ-loop
+loop-less c = search needs
+
+loop-again : tie.Need-loop-again Inv-loop μ-loop
+loop-again c =
+    let at = c .before .before .before .before .before .before .loop in (
+      search needs,
+      at .inv .1,
+      at .inv .2,
+      below-more _ _ (at .inv .3)
+          (clash-none _ _ _ (sym (c .before .fresh .ensures) ∙ not-false (c .before .fresh .result) (c .if1 .left))),
+    )
+
+same-length-3 : tie.Need-same-length-3 Inv-loop μ-loop
+same-length-3 c = search needs
+
+same-length-4 : tie.Need-same-length-4 Inv-loop μ-loop
+same-length-4 c = search needs
+
+returns-2 : tie.Need-returns-2 Inv-loop μ-loop
+returns-2 c = least-end _ _ _ (c .before .loop .inv .0) (c .loop-test .left) (c .before .loop .inv .3)
+
+pub clash-in-spec : {M : Type 1} → statement M
+clash-in-spec =
+    tie.close
+    (tie.spec
+    Inv-loop
+    μ-loop
+    chain-requires
+    loop-holds
+    mul-fresh
+    shared-slice-read-fresh
+    fresh-requires
+    same-length
+    same-length-2
+    returns
+    add-i
+    loop-less
+    loop-again
+    same-length-3
+    same-length-4
+    returns-2)
