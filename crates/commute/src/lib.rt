@@ -1,2 +1,3 @@
-// Edits that may come in either order: document 01, demand 3. It is a theorem about the outcomes that the contracts of the
-// three edits name, so there is no code here: specs/Independent.antt has the conditions, proofs/Demand3.antt the theorem.
+// What an accepted edit leaves, in plain words (specs/Again, Planted, Spare), and edits that may come in either order
+// (specs/Independent, proofs/Demand3): theorems about the outcomes that the contracts of the three edits name, so no
+// code.
