@@ -1,5 +1,5 @@
 -- What finding a key answers: 01, "Finding and editing by key". Refusals: `given-refused`, of any check;
--- `table-numbers`, the table's are 1 and 2; `key-passes`, an edit's key gets 9 exactly if no row in use has it.
+-- `table-numbers`, the table's are 1 and 2; `key-refused`, an edit's key gets 9 exactly if no row in use has it.
 -- Finding: `find-none`, refusal 9 exactly if the table is sound and no row in use has the key; `find-zero`, so always
 -- for key 0; `find-row`, a row is found for its key; `find-found`, exactly a row that has the key is found.
 -- Assumes nothing.
@@ -39,9 +39,9 @@ table-numbers t m p e =
     (λ h. inr (sym (given-refused _ _ _ _ _ .0 (h .1) .1))) (next-first _ _ m p .0 e)
 
 -- refusal 9, exactly if no row in use has the key
-pub key-passes : (t : Table) (k : ℕ) → (keyCheck t k ≡ Refused 9 0) ↔ NoKey t k
+pub key-refused : (t : Table) (k : ℕ) → (keyCheck t k ≡ Refused 9 0) ↔ NoKey t k
 unfolding keyCheck
-key-passes t k = (
+key-refused t k = (
   λ e. no-key t k .0 (not-true _ (given-refused _ _ _ _ _ .0 e .0)),
   λ h. given-refused _ _ _ _ _ .1 (ap not (no-key t k .1 h), refl, refl),
 )
