@@ -1,4 +1,4 @@
--- Refusal numbers and places: 01, "Refusal numbers", a definition for each number and the order of each call.
+-- Refusal numbers and places: 01, "Refusal numbers", number by number. The order in each call is in Outcome.
 -- Assumes nothing.
 use Prim.Native.Nat.{ℕ, _+_, min}
 use mathlib.Core.Bool.{Bool, cond, not, _&&_, _||_}
