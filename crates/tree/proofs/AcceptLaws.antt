@@ -1,6 +1,6 @@
 -- When an edit is accepted, in plain words: `insert-passes`, `delete-passes`, `rename-passes`, `edit-passes`.
 -- Tests that fail, `neither`, `neither-of`; a search that finds nothing, `none-below`; a key that is not found,
--- `no-key`. Assumes nothing.
+-- `no-key`; a piece that may be inserted, `piece-ok`. Assumes nothing.
 use mathlib.Core.Path.{_≡_, refl, ap, _∙_}
 use mathlib.Core.Logic.{_⊎_, inl, inr, ⊎-elim, _↔_}
 use mathlib.Core.Bool.{Bool, true, false, not, _||_, true≢false}
@@ -62,7 +62,7 @@ pub record InsertFits (t : Table) (r : ℕ) (p : Table) : Type 0 where
   pub room : t .count + p .count ≤ shortest t
 
 -- refusal 10
-piece-ok : (p : Table) → (badPiece p ≡ false) ↔ (Sound p × (at (p .kind) 0 ≡ 0 → ⊥))
+pub piece-ok : (p : Table) → (badPiece p ≡ false) ↔ (Sound p × (at (p .kind) 0 ≡ 0 → ⊥))
 unfolding badPiece tableCheck
 piece-ok p = (
   λ e. let a = neither (not (countOk p) || ltb (firstBad p) (p .count)) _ e in
