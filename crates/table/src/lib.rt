@@ -36,7 +36,7 @@ pub fn check(
     Checked::Passed
 }
 
-// The row of a key in a table that is known to be sound, or refusal 9.
+// The row of a key among the first rows, or refusal 9; for calls that have checked the table.
 pub fn locate(key: &[usize], count: usize, wanted: usize) -> Found
     requires { ⌜ count ≤ length (now key) ⌝ }
     ensures { λ r. ⌜ r ≡ located (now (key .entry)) count wanted ⌝ }

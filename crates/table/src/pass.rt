@@ -45,7 +45,7 @@ fn root_fits(own: usize, kind: usize, size: usize, name: usize) -> bool
     )
 }
 
-// Whether the open rows of the levels low to high all have to end before row i.
+// Whether the open rows of the levels low to high all have to end before row i: true only where it is so.
 fn end_at(ends: &[usize; 64], low: usize, high: usize, i: usize) -> bool
     requires { ⌜ high < 64 ⌝ }
     ensures { λ r. ⌜ (r ≡ true → EndAt (now (ends .entry)) low high i) ⌝ }
