@@ -8,7 +8,8 @@ use Rattle.tree.specs.Outcome.{StepOutcome, EditOutcome, checkOutcome, findOutc
 use Rattle.reach_c.specs.Answer.{checkAnswer, findAnswer, StepLeaves, EditLeaves}
 use Rattle.reach_c.specs.declared.answer.Answer.{Answer}
 
-pub check-only : (t : Table) {x y : Answer} → x ≡ checkAnswer (checkOutcome t) → y ≡ checkAnswer (checkOutcome t) → x ≡ y
+pub check-only : (t : Table) {x y : Answer} → x ≡ checkAnswer (checkOutcome t) → y ≡ checkAnswer (checkOutcome t)
+    → x ≡ y
 check-only t p q = p ∙ sym q
 
 pub find-only : (t : Table) (k : ℕ) {x y : Answer} → x ≡ findAnswer (findOutcome t k) → y ≡ findAnswer (findOutcome t k)

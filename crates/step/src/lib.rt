@@ -17,8 +17,8 @@ use tree::Checked;
 use tree::Stepped;
 use tree::logic::smaller;
 
-// The step of a call that refusals 1 to 7 do not apply to: writes the lines to the front of the result columns and tells
-// their number and the kept count, or refuses with 8 and leaves the columns as they were.
+// The step of a call that refusals 1 to 7 do not apply to: writes the lines to the front of the result columns and
+// tells their number and the kept count, or refuses with 8 and leaves the columns as they were.
 pub fn step_known(
     key: &[usize],
     size: &[usize],

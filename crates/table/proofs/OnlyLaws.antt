@@ -1,4 +1,5 @@
--- Two answers that a contract of this crate allows are equal: `check-only`, `find-only`, `locate-only`. Assumes nothing.
+-- Two answers that a contract of this crate allows are equal: `check-only`, `find-only`, `locate-only`. Assumes
+-- nothing.
 use mathlib.Core.Path.{_≡_, sym, _∙_}
 use mathlib.Core.List.{List}
 use Prim.Native.Nat.{ℕ}

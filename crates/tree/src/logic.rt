@@ -1,4 +1,5 @@
-// Tests joined, and the smaller and the greater of two numbers. They stand for branches, which would lose what a test showed.
+// Tests joined, and the smaller and the greater of two numbers. They stand for branches, which would lose what a test
+// showed.
 ghost use mathlib.Core.Path.{_≡_};
 ghost use mathlib.Core.Bool.{_&&_, _||_};
 ghost use Prim.Native.Nat.{min, max};

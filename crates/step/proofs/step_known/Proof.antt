@@ -34,7 +34,12 @@ write-all-requires c κs =
     let found = told .before .before .before .before .before in
     let known = found .before .before .before .before .before .before .before .before .before .before .before .pre in
     let room = rw (told .before .before .before .smaller .ensures) at (told .before .before .check-room .ensures) in (
-      record { sound = known .sound; pairs = known .pairs; asked = known .asked; parents = found .parents-for .ensures },
+      record {
+        sound = known .sound;
+        pairs = known .pairs;
+        asked = known .asked;
+        parents = found .parents-for .ensures;
+      },
       room-fits _ _ _ _ _ _ (sym room ∙ told .enum-told .given .1),
     )
 
