@@ -23,6 +23,7 @@ accepted a b m = record { refusal = 0; place = 0; first = a; second = b; moved =
 abbrev pub refused : ℕ → ℕ → Answer
 refused n p = record { refusal = n; place = p; first = 0; second = 0; moved = pos 0 }
 
+-- an accepted check has nothing to tell
 unfoldable pub checkAnswer : Checked → Answer
 checkAnswer Passed = accepted 0 0 (pos 0)
 checkAnswer (Refused n p) = refused n p

@@ -11,6 +11,7 @@ use Rattle.tree.specs.Outcome.{StepOutcome}
 use Rattle.tree.specs.declared.Checked.the-variants.{Passed}
 use Rattle.tree.specs.declared.Stepped.{Stepped}
 
+-- the answer and both result columns are those of the outcome
 pub record Leaves (o : StepOutcome) (answer : Stepped) (role row : List ℕ) : Type 0 where
   pub answers : answer ≡ o .answer
   pub role-is : role ≡ o .role

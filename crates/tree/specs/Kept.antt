@@ -25,5 +25,6 @@ remaining axis level all (p ∷ ps) =
     (remaining axis level all ps)
     (p ∷ remaining axis level all ps)
 
+-- how many of these pairs remain among themselves
 unfoldable pub keptCount : ℕ → List ℕ → List Pair → ℕ
 keptCount axis level ps = length (remaining axis level ps ps)

@@ -24,6 +24,7 @@ use Rattle.tree.specs.declared.Edited.{Edited}
 use Rattle.tree.specs.declared.Edited.the-variants.{Made, Refused as NotMade}
 
 -- ── table check: 1, 2 ──
+-- what checking a table answers
 unfoldable pub checkOutcome : Table → Checked
 checkOutcome t = tableCheck t
 
@@ -32,14 +33,17 @@ checkOutcome t = tableCheck t
 unfoldable pub located : List ℕ → ℕ → ℕ → Found
 located key n k = cond (ltb (rowOf key n k) n) (At (rowOf key n k)) (NotFound 9 0)
 
+-- what was found, once the check passed, or the refusal of the check
 unfoldable pub foundIf : Checked → Found → Found
 foundIf Passed f = f
 foundIf (Refused m p) f = NotFound m p
 
+-- what finding a key answers: the row that has it
 unfoldable pub findOutcome : Table → ℕ → Found
 findOutcome t k = foundIf (tableCheck t) (located (t .key) (t .count) k)
 
 -- ── step: 1 to 8 ──
+-- what a step answers, and the result columns as it leaves them
 pub record StepOutcome : Type 0 where
   pub answer : Stepped
   pub role : List ℕ
@@ -49,6 +53,7 @@ pub record StepOutcome : Type 0 where
 unfoldable pub overwritten : List ℕ → List ℕ → List ℕ
 overwritten xs out = xs ++ drop (length xs) out
 
+-- the step that was checked: these results and this kept count, or the refusal and the result columns as they were
 unfoldable pub stepIf : Checked → List Pair → ℕ → List ℕ → List ℕ → StepOutcome
 stepIf (Refused m p) results kept outRole outRow = record { answer = NotListed m p; role = outRole; row = outRow }
 stepIf Passed results kept outRole outRow = record {
@@ -63,12 +68,14 @@ stepCheck t role row a outRole outRow =
     next (tableCheck t) (next (pairCheck role row (t .count)) (next (askCheck a)
     (roomCheck (length (stepList t a (pairsOf role row))) outRole outRow)))
 
+-- what a step answers and leaves: the pairs that it lists, and the kept count of the pairs that it was given
 unfoldable pub stepOutcome : Table → List ℕ → List ℕ → Ask → List ℕ → List ℕ → StepOutcome
 stepOutcome t role row a outRole outRow =
     stepIf (stepCheck t role row a outRole outRow) (stepList t a (pairsOf role row))
     (keptCount (a .axis) (t .level) (pairsOf role row)) outRole outRow
 
 -- ── edits: 1, 2, 9, then their own ──
+-- what an edit answers, and the table as it leaves it
 pub record EditOutcome : Type 0 where
   pub answer : Edited
   pub table : Table
@@ -82,16 +89,19 @@ editIf Passed d t′ t = record { answer = Made d; table = t′ }
 unfoldable pub editCheck : Table → ℕ → Checked → Checked
 editCheck t k own = next (tableCheck t) (next (keyCheck t k) own)
 
+-- what inserting a piece under the row of a key answers and leaves
 unfoldable pub insertOutcome : Table → ℕ → Table → EditOutcome
 insertOutcome t k p =
     let r : ℕ = rowOf (t .key) (t .count) k in
     editIf (editCheck t k (insertCheck t r p)) (insertDone t r p) (inserted t r p) t
 
+-- what deleting the row of a key, and its descendants, answers and leaves
 unfoldable pub deleteOutcome : Table → ℕ → EditOutcome
 deleteOutcome t k =
     let r : ℕ = rowOf (t .key) (t .count) k in
     editIf (editCheck t k (deleteCheck t r)) (deleteDone t r) (deleted t r) t
 
+-- what giving the row of a key a new name answers and leaves
 unfoldable pub renameOutcome : Table → ℕ → ℕ → EditOutcome
 renameOutcome t k m =
     let r : ℕ = rowOf (t .key) (t .count) k in
