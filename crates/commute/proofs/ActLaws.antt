@@ -10,6 +10,7 @@ use lib.ListN.{length, length-set, length-map}
 use Rattle.tree.specs.Table.{Table, at, shortest}
 use Rattle.tree.specs.Sound.{rowOf}
 use Rattle.tree.specs.Rules.{InUse, Sound}
+use Rattle.tree.specs.EditRules.{InsertFits, EditFits}
 use Rattle.tree.specs.Edit.{opened, closed, gapOf, inserted, deleted, renamed}
 use Rattle.tree.specs.Refusal.{insertCheck, deleteCheck, renameCheck}
 use Rattle.tree.specs.Outcome.{EditOutcome, editIf, editCheck, insertOutcome, deleteOutcome, renameOutcome}
@@ -17,7 +18,7 @@ use Rattle.tree.specs.declared.Checked.{Checked}
 use Rattle.tree.specs.declared.Checked.the-variants.{Passed, Refused}
 use Rattle.tree.specs.declared.Done.{Done}
 use Rattle.tree.specs.declared.Edited.the-variants.{Made, Refused as NotMade}
-use Rattle.tree.proofs.AcceptLaws.{InsertFits, EditFits, insert-passes, delete-passes, rename-passes, edit-passes}
+use Rattle.tree.proofs.AcceptLaws.{insert-passes, delete-passes, rename-passes, edit-passes}
 use Rattle.tree.proofs.ColumnLaws.{length-opened, length-closed, length-changed}
 use Rattle.tree.proofs.Nodes.{nodesOf, Edit, ins, del, ren, edited}
 use Rattle.tree.proofs.EditLaws.{gap-fits, nodes-inserted, nodes-deleted, nodes-renamed}

@@ -11,13 +11,14 @@ use lib.ListN.{length}
 use Rattle.tree.specs.Table.{Table, at}
 use Rattle.tree.specs.Sound.{rowOf}
 use Rattle.tree.specs.Rules.{Sound}
+use Rattle.tree.specs.EditRules.{NoKey}
 use Rattle.tree.specs.Edit.{closed, gapOf, deleted}
 use Rattle.tree.specs.Outcome.{foundIf, located, findOutcome}
 use Rattle.tree.specs.declared.Done.{Done}
 use Rattle.tree.specs.declared.Edited.the-variants.{Made}
 use Rattle.tree.specs.declared.Found.the-variants.{Refused as NotFound}
 use Rattle.tree.proofs.SoundLaws.{table-passes, sound-descendants, find-at, either}
-use Rattle.tree.proofs.AcceptLaws.{NoKey, no-key}
+use Rattle.tree.proofs.AcceptLaws.{no-key}
 use Rattle.tree.proofs.ColumnLaws.{closed-stays, closed-moves}
 use Rattle.tree.proofs.EditLaws.{gap-fits}
 use Rattle.commute.specs.Act.{Act, insertion, deletion, renaming, outcome, rowNamed, tableAfter}

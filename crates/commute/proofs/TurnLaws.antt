@@ -11,10 +11,11 @@ use lib.ListN.{length}
 use Rattle.tree.specs.Table.{Table, at, shortest, SameRows}
 use Rattle.tree.specs.Sound.{rowOf}
 use Rattle.tree.specs.Rules.{Sound}
+use Rattle.tree.specs.EditRules.{InsertFits, RenameFits}
 use Rattle.tree.specs.Tree.{ancestor}
 use Rattle.tree.specs.declared.Checked.the-variants.{Passed}
 use Rattle.tree.proofs.SoundLaws.{find-at, sound-descendants}
-use Rattle.tree.proofs.AcceptLaws.{InsertFits, RenameFits, neither-of, insert-passes, delete-passes, rename-passes}
+use Rattle.tree.proofs.AcceptLaws.{neither-of, insert-passes, delete-passes, rename-passes}
 use Rattle.tree.proofs.Nodes.{Node, nodeAt, nodesOf, sizes, edited, brought, Row, Unlike, Absent, Apart}
 use Rattle.tree.proofs.NodeLaws.{length-rows, all-rows, rows-all}
 use Rattle.tree.proofs.NodeSizes.{nodes-at, size-of-nodes}

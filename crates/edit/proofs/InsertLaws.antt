@@ -8,11 +8,12 @@ use lib.IntN.{pos}
 use lib.ListN.{length}
 use Rattle.tree.specs.Table.{Table, at, shortest}
 use Rattle.tree.specs.Rules.{Sound}
+use Rattle.tree.specs.EditRules.{InsertFits}
 use Rattle.tree.specs.Edit.{opened, gapOf, inserted, insertDone}
 use Rattle.tree.specs.declared.Done.{Done}
 use Rattle.tree.specs.declared.Edited.the-variants.{Made}
 use Rattle.tree.proofs.SoundLaws.{sound-shape}
-use Rattle.tree.proofs.AcceptLaws.{InsertFits, insert-passes}
+use Rattle.tree.proofs.AcceptLaws.{insert-passes}
 use Rattle.tree.proofs.EditLaws.{gap-fits}
 use Rattle.edit.specs.Leaves.{Leaves}
 use Rattle.edit.specs.AtRow.{Fitting, insertAt}

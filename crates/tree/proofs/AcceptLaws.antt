@@ -13,6 +13,7 @@ use Rattle.tree.specs.Search.{least}
 use Rattle.tree.specs.Table.{Table, at, shortest, countOk}
 use Rattle.tree.specs.Sound.{rowOf, hasName, firstBad}
 use Rattle.tree.specs.Rules.{Sound}
+use Rattle.tree.specs.EditRules.{NoKey, InsertFits, RenameFits, EditFits}
 use Rattle.tree.specs.Refusal.{givenAt, tableCheck, keyCheck, badPiece, insertCheck, deleteCheck, renameCheck}
 use Rattle.tree.specs.Outcome.{editCheck}
 use Rattle.tree.specs.declared.Checked.{Checked}
@@ -38,11 +39,7 @@ none-below f n = (
   λ h. let z : least f n ≡ n = least-none f n h in le-ltb (least f n) n (omega arith),
 )
 
--- no row in use has the key x
-abbrev pub NoKey : Table → ℕ → Type 0
-NoKey t x = (j : ℕ) → j < t .count → at (t .key) j ≡ x → ⊥
-
--- exactly then it is not found
+-- a key is not found exactly if no row in use has it
 pub no-key : (t : Table) (x : ℕ) → (ltb (rowOf (t .key) (t .count) x) (t .count) ≡ false) ↔ NoKey t x
 unfolding rowOf
 no-key t x = (
@@ -51,16 +48,6 @@ no-key t x = (
 )
 
 -- ── an insertion ──
--- refusals 10 to 14 do not apply
-pub record InsertFits (t : Table) (r : ℕ) (p : Table) : Type 0 where
-  pub piece : Sound p
-  pub root : at (p .kind) 0 ≡ 0 → ⊥
-  pub parent : at (t .kind) r ≤ 1
-  pub low : (i : ℕ) → i < p .count → at (p .level) i + (at (t .level) r + 1) ≤ 63
-  pub fresh : (i : ℕ) → i < p .count → NoKey t (at (p .key) i)
-  pub few : t .count + p .count ≤ 4096
-  pub room : t .count + p .count ≤ shortest t
-
 -- refusal 10
 pub piece-ok : (p : Table) → (badPiece p ≡ false) ↔ (Sound p × (at (p .kind) 0 ≡ 0 → ⊥))
 unfolding badPiece tableCheck
@@ -72,7 +59,7 @@ piece-ok p = (
       neither-of (neither-of (given-passed _ _ _ (a .0)) (given-passed _ _ _ (a .1))) (ne-eqb _ _ (h .1)),
 )
 
--- its own check passes exactly then
+-- its own check passes exactly if refusals 10 to 14 do not apply
 pub insert-passes : (t : Table) (r : ℕ) (p : Table) → (insertCheck t r p ≡ Passed) ↔ InsertFits t r p
 unfolding insertCheck givenAt
 insert-passes t r p = (there, back)
@@ -126,12 +113,7 @@ unfolding deleteCheck
 delete-passes t r = (λ e. eqb-false _ _ (given-passed _ _ _ e), λ h. given-not _ _ (ne-eqb _ _ h))
 
 -- ── a renaming ──
--- refusal 16 does not apply
-pub record RenameFits (kind m : ℕ) : Type 0 where
-  pub named : (kind ≡ 1) ⊎ (kind ≡ 4)
-  pub nonzero : m ≡ 0 → ⊥
-
--- its own check passes exactly then
+-- its own check passes exactly if refusal 16 does not apply
 pub rename-passes : (t : Table) (r m : ℕ) → (renameCheck t r m ≡ Passed) ↔ RenameFits (at (t .kind) r) m
 unfolding renameCheck hasName
 rename-passes t r m = (
@@ -147,13 +129,7 @@ rename-passes t r m = (
 )
 
 -- ── all three ──
--- refusals 1, 2 and 9 do not apply: the table is sound, the key is found; and the edit's own check passes at its row
-pub record EditFits (t : Table) (k : ℕ) (own : Checked) : Type 0 where
-  pub sound : Sound t
-  pub found : rowOf (t .key) (t .count) k < t .count
-  pub passes : own ≡ Passed
-
--- the whole check passes exactly then
+-- the whole check passes exactly if refusals 1, 2 and 9 do not apply and the edit's own check passes
 pub edit-passes : (t : Table) (k : ℕ) (own : Checked) → (editCheck t k own ≡ Passed) ↔ EditFits t k own
 unfolding editCheck keyCheck
 edit-passes t k own = (

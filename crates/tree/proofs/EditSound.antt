@@ -13,6 +13,7 @@ use lib.Seq.{getD-set-same, getD-set-other}
 use Rattle.tree.specs.Table.{Table, at, shortest}
 use Rattle.tree.specs.Edit.{opened, closed, gapOf, inserted, deleted, renamed}
 use Rattle.tree.specs.Rules.{NameRule, InUse, Sound}
+use Rattle.tree.specs.EditRules.{InsertFits, RenameFits}
 use Rattle.tree.proofs.ColumnLaws.{length-opened, length-closed, length-changed}
 use Rattle.tree.proofs.Nodes.{Node, rows, nodeAt, nodesOf, ins, del, brought, Absent, Apart, Unlike, Good}
 use Rattle.tree.proofs.Nodes.{NoDocument, Allowed}
@@ -21,7 +22,6 @@ use Rattle.tree.proofs.NodeSound.{nodes-sound, sound-nodes}
 use Rattle.tree.proofs.EditLaws.{rowIn, row-found, gap-fits, nodes-inserted, nodes-deleted}
 use Rattle.tree.proofs.EditSizes.{size-inserted, size-deleted}
 use Rattle.tree.proofs.KeepLaws.{good-edited}
-use Rattle.tree.proofs.AcceptLaws.{InsertFits, RenameFits}
 
 -- ── what the check of an insertion tells of the nodes ──
 -- the piece's first row is no document

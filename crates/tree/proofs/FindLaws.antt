@@ -12,13 +12,14 @@ use borrow.Author.Tests.{ltb-true, lt-ltb, not-true}
 use lib.Dec.{ltb}
 use Rattle.tree.specs.Table.{Table, at}
 use Rattle.tree.specs.Rules.{Sound}
+use Rattle.tree.specs.EditRules.{NoKey}
 use Rattle.tree.specs.Refusal.{given, tableCheck, keyCheck}
 use Rattle.tree.specs.Outcome.{located, foundIf, findOutcome}
 use Rattle.tree.specs.declared.Checked.{Checked}
 use Rattle.tree.specs.declared.Checked.the-variants.{Passed, Refused}
 use Rattle.tree.specs.declared.Found.the-variants.{At, Refused as NotFound}
 use Rattle.tree.proofs.SoundLaws.{table-passes, next-first, find-at}
-use Rattle.tree.proofs.AcceptLaws.{NoKey, no-key}
+use Rattle.tree.proofs.AcceptLaws.{no-key}
 use Rattle.tree.proofs.EditLaws.{rowIn, row-key}
 
 -- ── refusals ──

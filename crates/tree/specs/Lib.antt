@@ -10,5 +10,6 @@ pub mod Step
 pub mod StepRules
 pub mod Kept
 pub mod Edit
+pub mod EditRules
 pub mod Refusal
 pub mod Outcome
