@@ -3,7 +3,7 @@ ghost use mathlib.Core.Path.{_≡_};
 ghost use Rattle.tree.specs.Table.{tableOf};
 ghost use Rattle.tree.specs.Outcome.{checkOutcome, findOutcome, stepOutcome};
 ghost use Rattle.tree.specs.Outcome.{insertOutcome, deleteOutcome, renameOutcome};
-ghost use Rattle.step.specs.Steps.{askOf};
+ghost use Rattle.tree.specs.Step.{askOf};
 ghost use Rattle.reach_c.specs.Answer.{checkAnswer, findAnswer, StepLeaves, EditLeaves};
 
 pub mod answer; // answer.rt: the library's answers as one struct

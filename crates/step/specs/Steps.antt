@@ -13,9 +13,6 @@ use Rattle.tree.specs.declared.Checked.the-variants.{Passed}
 use Rattle.span.specs.Reach.{Wrote, Parents}
 use Rattle.axis.specs.Role.{climbsAxis}
 
-abbrev pub askOf : ℕ → ℕ → ℕ → Ask
-askOf axis test name = record { axis = axis; test = test; name = name }
-
 -- refusals 1 to 7 do not apply, and up holds the parents where the axis follows them
 pub record Steps (t : Table) (a : Ask) (up role row : List ℕ) : Type 0 where
   pub sound : Sound t

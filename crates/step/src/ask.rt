@@ -3,7 +3,7 @@ ghost use mathlib.Core.Path.{_≡_};
 ghost use Rattle.tree.specs.Axis.{axisOk};
 ghost use Rattle.tree.specs.Test.{testOk};
 ghost use Rattle.tree.specs.Refusal.{askCheck};
-ghost use Rattle.step.specs.Steps.{askOf};
+ghost use Rattle.tree.specs.Step.{askOf};
 use tree::Checked;
 
 // Whether the axis code is known.

@@ -2,7 +2,7 @@
 ghost use mathlib.Core.Path.{_≡_};
 ghost use Rattle.tree.specs.Table.{tableOf};
 ghost use Rattle.tree.specs.Refusal.{next, tableCheck, pairCheck, askCheck};
-ghost use Rattle.step.specs.Steps.{askOf};
+ghost use Rattle.tree.specs.Step.{askOf};
 use super::ask::check_ask;
 use table::pairs::check_pairs;
 use tree::Checked;

@@ -2,7 +2,7 @@
 ghost use mathlib.Core.Path.{_≡_};
 ghost use Rattle.tree.specs.Table.{tableOf};
 ghost use Rattle.tree.specs.Outcome.{stepOutcome};
-ghost use Rattle.step.specs.Steps.{askOf};
+ghost use Rattle.tree.specs.Step.{askOf};
 ghost use Rattle.step.specs.Leaves.{Leaves, Known};
 
 mod ask; // ask.rt: the axis code, the test code and its name

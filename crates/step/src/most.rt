@@ -7,10 +7,10 @@ ghost use lib.Dec.{eqb};
 ghost use lib.ListN.{length};
 ghost use Rattle.tree.specs.Table.{tableOf};
 ghost use Rattle.tree.specs.Pairs.{pairsOf};
-ghost use Rattle.tree.specs.Step.{stepList};
+ghost use Rattle.tree.specs.Step.{askOf, stepList};
 ghost use Rattle.span.specs.Reach.{Parents};
 ghost use Rattle.axis.specs.Role.{climbsAxis};
-ghost use Rattle.step.specs.Steps.{askOf, Steps};
+ghost use Rattle.step.specs.Steps.{Steps};
 ghost use Rattle.step.specs.Most.{rolesIn, sumOf, onCount, spanOf, placeSpan, parentSpan, FewRows};
 
 // 1 where the numbers differ, 0 where they are the same.

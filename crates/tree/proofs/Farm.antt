@@ -13,7 +13,7 @@ use Rattle.tree.specs.Tree.{parent, above, ancestor, siblings}
 use Rattle.tree.specs.Axis.{axisOk, following, preceding, onAxis}
 use Rattle.tree.specs.Test.{testOk, passes}
 use Rattle.tree.specs.Pairs.{pairsOf, withRole, rolesOf, rowsOf, before, outOfOrder, some, distinct}
-use Rattle.tree.specs.Step.{listed, reached, linesOf, stepList}
+use Rattle.tree.specs.Step.{askOf, listed, reached, linesOf, stepList}
 use Rattle.tree.specs.Kept.{drops, remaining, keptCount}
 use Rattle.tree.specs.Edit.{opened, closed, changed, gapOf, inserted, deleted, renamed, minus}
 use Rattle.tree.specs.Edit.{insertDone, deleteDone, renameDone}
@@ -25,7 +25,7 @@ use Rattle.tree.specs.declared.Checked.the-variants.{Passed, Refused}
 use Rattle.tree.specs.declared.Found.the-variants.{At, Refused as NotFound}
 use Rattle.tree.specs.declared.Stepped.the-variants.{Refused as NotListed}
 use Rattle.tree.proofs.FarmCalls.{farm, leaf, ladder, counted, leafUnder, both, run, Case}
-use Rattle.tree.proofs.FarmCalls.{ask, farmStep, kindStep, lists, refuses, makes, keeps}
+use Rattle.tree.proofs.FarmCalls.{farmStep, kindStep, lists, refuses, makes, keeps}
 use Rattle.tree.proofs.FarmCalls.Call.{check, step, find, insert, delete, rename}
 use Rattle.tree.proofs.FarmCalls.Call.{insertThenDelete, deleteThenInsert}
 use Rattle.tree.proofs.FarmCalls.Gives.{checked, stepped, found}
@@ -45,7 +45,7 @@ cases =
     record { call = farmStep 10 0 0; gives = lists 3 4 (5 ∷ 5 ∷ 5 ∷ 7 ∷ []) (4 ∷ 6 ∷ 9 ∷ 9 ∷ []) } ∷
     record { call = farmStep 1 4 0; gives = lists 3 8 [] [] } ∷
     record {
-      call = step farm (5 ∷ 5 ∷ 7 ∷ []) (1 ∷ 2 ∷ 6 ∷ []) (ask 3 2 4) (77 ∷ 77 ∷ []) (88 ∷ 88 ∷ []);
+      call = step farm (5 ∷ 5 ∷ 7 ∷ []) (1 ∷ 2 ∷ 6 ∷ []) (askOf 3 2 4) (77 ∷ 77 ∷ []) (88 ∷ 88 ∷ []);
       gives = stepped (record { answer = NotListed 8 3; role = 77 ∷ 77 ∷ []; row = 88 ∷ 88 ∷ [] });
     } ∷
     -- M9
@@ -76,13 +76,13 @@ cases =
     record { call = insertThenDelete farm 31 leaf 21; gives = makes 9 4 (negsuc 1) (both 0 0 0 0 0) } ∷
     record { call = deleteThenInsert farm 21 31 leaf; gives = makes 9 7 (pos 1) (both 91 93 95 97 99) } ∷
     -- no pairs; row 9 and row 10 in a pair; names that do not fit the test
-    record { call = step farm [] [] (ask 3 0 0) (replicate 8 77) (replicate 8 88); gives = lists 0 8 [] [] } ∷
+    record { call = step farm [] [] (askOf 3 0 0) (replicate 8 77) (replicate 8 88); gives = lists 0 8 [] [] } ∷
     record {
-      call = step farm (5 ∷ []) (9 ∷ []) (ask 1 0 0) (replicate 8 77) (replicate 8 88);
+      call = step farm (5 ∷ []) (9 ∷ []) (askOf 1 0 0) (replicate 8 77) (replicate 8 88);
       gives = lists 1 7 (5 ∷ []) (9 ∷ []);
     } ∷
     record {
-      call = step farm (5 ∷ 5 ∷ []) (9 ∷ 10 ∷ []) (ask 1 0 0) (replicate 8 77) (replicate 8 88);
+      call = step farm (5 ∷ 5 ∷ []) (9 ∷ 10 ∷ []) (askOf 1 0 0) (replicate 8 77) (replicate 8 88);
       gives = refuses 5 1;
     } ∷
     record { call = farmStep 3 2 0; gives = refuses 7 0 } ∷
@@ -99,11 +99,11 @@ cases =
     record { call = check (counted 13); gives = checked (Refused 1 0) } ∷
     record { call = check (counted 11); gives = checked (Refused 2 0) } ∷
     record {
-      call = step farm (5 ∷ 5 ∷ []) (1 ∷ []) (ask 1 0 0) (replicate 8 77) (replicate 8 88);
+      call = step farm (5 ∷ 5 ∷ []) (1 ∷ []) (askOf 1 0 0) (replicate 8 77) (replicate 8 88);
       gives = refuses 3 0;
     } ∷
     record {
-      call = step farm (5 ∷ 5 ∷ []) (2 ∷ 1 ∷ []) (ask 1 0 0) (replicate 8 77) (replicate 8 88);
+      call = step farm (5 ∷ 5 ∷ []) (2 ∷ 1 ∷ []) (askOf 1 0 0) (replicate 8 77) (replicate 8 88);
       gives = refuses 4 1;
     } ∷
     record { call = farmStep 12 9 0; gives = refuses 6 0 } ∷
@@ -160,21 +160,27 @@ cases =
     record { call = kindStep 8 0; gives = refuses 7 0 } ∷
     record { call = kindStep 6 0; gives = refuses 7 0 } ∷
     -- several refusals apply: the lowest is given
-    record { call = step (counted 11) (5 ∷ []) [] (ask 0 9 9) (replicate 8 77) (replicate 8 88); gives = refuses 2 0 } ∷
     record {
-      call = step farm (5 ∷ 4 ∷ []) (10 ∷ 1 ∷ []) (ask 12 9 9) (replicate 8 77) (replicate 8 88);
+      call = step (counted 11) (5 ∷ []) [] (askOf 0 9 9) (replicate 8 77) (replicate 8 88);
+      gives = refuses 2 0;
+    } ∷
+    record {
+      call = step farm (5 ∷ 4 ∷ []) (10 ∷ 1 ∷ []) (askOf 12 9 9) (replicate 8 77) (replicate 8 88);
       gives = refuses 4 1;
     } ∷
-    record { call = step farm (5 ∷ []) (10 ∷ []) (ask 12 9 9) (replicate 8 77) (replicate 8 88); gives = refuses 5 0 } ∷
     record {
-      call = step farm (5 ∷ 5 ∷ 7 ∷ []) (1 ∷ 2 ∷ 6 ∷ []) (ask 3 2 4) (replicate 8 77) (88 ∷ 88 ∷ []);
+      call = step farm (5 ∷ []) (10 ∷ []) (askOf 12 9 9) (replicate 8 77) (replicate 8 88);
+      gives = refuses 5 0;
+    } ∷
+    record {
+      call = step farm (5 ∷ 5 ∷ 7 ∷ []) (1 ∷ 2 ∷ 6 ∷ []) (askOf 3 2 4) (replicate 8 77) (88 ∷ 88 ∷ []);
       gives = stepped (record { answer = NotListed 8 3; role = replicate 8 77; row = 88 ∷ 88 ∷ [] });
     } ∷
     record { call = insert farm 91 (counted 0); gives = keeps 9 0 farm } ∷
     record { call = insert farm 40 (counted 0); gives = keeps 10 0 farm } ∷
     -- equal pairs count once
     record {
-      call = step farm (5 ∷ 5 ∷ []) (2 ∷ 2 ∷ []) (ask 2 0 0) (replicate 8 77) (replicate 8 88);
+      call = step farm (5 ∷ 5 ∷ []) (2 ∷ 2 ∷ []) (askOf 2 0 0) (replicate 8 77) (replicate 8 88);
       gives = lists 1 7 (5 ∷ []) (3 ∷ []);
     } ∷
     -- a deletion at the end: the old count is the first moved row

@@ -6,7 +6,7 @@ use mathlib.Core.List.{List, [], _∷_, _++_, map}
 use lib.IntN.{ℤ}
 use lib.ListN.{replicate}
 use Rattle.tree.specs.Table.{Table, tableOf}
-use Rattle.tree.specs.Step.{Ask}
+use Rattle.tree.specs.Step.{Ask, askOf}
 use Rattle.tree.specs.Outcome.{StepOutcome, EditOutcome, checkOutcome, findOutcome, stepOutcome}
 use Rattle.tree.specs.Outcome.{insertOutcome, deleteOutcome, renameOutcome}
 use Rattle.tree.specs.declared.Checked.{Checked}
@@ -73,11 +73,8 @@ pub record Case : Type 0 where
   pub gives : Gives
 
 -- ── short forms: the farm's pairs (5,1), (5,2), (7,6); result columns of 8 that hold 77 and 88 ──
-abbrev pub ask : ℕ → ℕ → ℕ → Ask
-ask a t m = record { axis = a; test = t; name = m }
-
 abbrev pub farmStep : ℕ → ℕ → ℕ → Call
-farmStep a t m = step farm (5 ∷ 5 ∷ 7 ∷ []) (1 ∷ 2 ∷ 6 ∷ []) (ask a t m) (replicate 8 77) (replicate 8 88)
+farmStep a t m = step farm (5 ∷ 5 ∷ 7 ∷ []) (1 ∷ 2 ∷ 6 ∷ []) (askOf a t m) (replicate 8 77) (replicate 8 88)
 
 abbrev pub lists : ℕ → ℕ → List ℕ → List ℕ → Gives
 lists kept rest role row =
@@ -118,7 +115,7 @@ kinds =
 
 -- from its root, the descendants and itself that pass a test
 abbrev pub kindStep : ℕ → ℕ → Call
-kindStep t m = step kinds (1 ∷ []) (0 ∷ []) (ask 4 t m) (replicate 8 77) (replicate 8 88)
+kindStep t m = step kinds (1 ∷ []) (0 ∷ []) (askOf 4 t m) (replicate 8 77) (replicate 8 88)
 
 -- two rows, no spare
 abbrev pub leafUnder : Table

@@ -5,8 +5,8 @@ use mathlib.Core.Path.{sym}
 use native.Mathlib.Omega.{arith}
 use lib.ListN.{length, replicate}
 use Rattle.tree.specs.Table.{tableOf}
+use Rattle.tree.specs.Step.{askOf}
 use Rattle.tree.proofs.SoundLaws.{sound-shape}
-use Rattle.step.specs.Steps.{askOf}
 use Rattle.axis.proofs.RowSetLaws.{blank-zeros}
 use Rattle.step.proofs.CountedLaws.{pairs-fit}
 use Rattle.step.proofs.WrittenLaws.{Written, written-none, written-roles, written-rows}
