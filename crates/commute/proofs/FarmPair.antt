@@ -3,7 +3,7 @@
 use mathlib.Core.Path.{refl}
 use native.Mathlib.Nat.{not-suc-le-zero}
 use native.Mathlib.Omega.{arith}
-use Rattle.tree.specs.Search.{least, nearest}
+use Rattle.tree.specs.Search.{least, someBelow, nearest}
 use Rattle.tree.specs.Table.{shortest, countOk, SameRows}
 use Rattle.tree.specs.Sound.{levelOk, runOf, sizeOf, sizeOk, kindOk, hasName, nameOk, rowOf, keyOk, restOk, rowOk}
 use Rattle.tree.specs.Sound.{firstBad}
@@ -18,8 +18,8 @@ use Rattle.commute.proofs.Demand3.{demand-three}
 
 -- M9 deletes the row of key 21, M10 inserts a leaf under that of key 31
 pub farm-independent : Independent (deletion 21) (insertion 31 leaf) farm
-unfolding least nearest shortest countOk levelOk runOf sizeOf sizeOk kindOk hasName nameOk rowOf keyOk restOk rowOk
-    firstBad parent above ancestor given givenAt next tableCheck keyCheck badPiece insertCheck deleteCheck
+unfolding least someBelow nearest shortest countOk levelOk runOf sizeOf sizeOk kindOk hasName nameOk rowOf keyOk restOk
+    rowOk firstBad parent above ancestor given givenAt next tableCheck keyCheck badPiece insertCheck deleteCheck
     editIf editCheck insertOutcome deleteOutcome
 farm-independent = record {
   accepted-a = (deleteDone farm 2, refl);

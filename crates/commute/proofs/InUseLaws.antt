@@ -10,6 +10,7 @@ use borrow.Author.Tests.{ltb-true}
 use lib.Dec.{eqb, ltb}
 use lib.ListN.{take}
 use lib.Seq.{take-take, getD-take}
+use Rattle.tree.specs.Search.{someBelow}
 use Rattle.tree.specs.Table.{Table, at, countOk, SameRows}
 use Rattle.tree.specs.Sound.{rowOf}
 use Rattle.tree.specs.Edit.{opened, gapOf, inserted, insertDone, deleteDone, renameDone}
@@ -47,7 +48,7 @@ module _ (p : Table) where
 
   -- refusals 10 to 14
   cut-insert : (t : Table) (r : ℕ) → insertCheck t r (cut p) ≡ insertCheck t r p
-  unfolding insertCheck givenAt
+  unfolding insertCheck givenAt someBelow
   cut-insert t r = rw (
     cut-piece,
     least-ext (λ i. ltb 63 (at (cut p .level) i + (at (t .level) r + 1)))
@@ -104,7 +105,7 @@ module _ (t u : Table) (s : SameRows t u) where
 
   -- the edit's own check
   own-same : (a : Act) → SameRoom a t u → rowNamed a t < t .count → own a t ≡ own a u
-  unfolding insertCheck givenAt deleteCheck renameCheck
+  unfolding insertCheck givenAt someBelow deleteCheck renameCheck
   own-same (insertion k p) e l =
       let c : t .count ≡ u .count = s .count in
       let q : rowOf (t .key) (t .count) k ≡ rowOf (u .key) (u .count) k = find-same k in

@@ -103,7 +103,7 @@ module _ (t : Table) (r : ℕ) (p : Table) where
 
   module _ (good : badPiece p ≡ false) where
     from-11 : insertCheck t r p ≡ kind-check
-    unfolding insertCheck someBelow
+    unfolding insertCheck
     from-11 = next-on _ (given-not 10 0 good)
 
     pub refused-11 : 1 < at (t .kind) r → insertCheck t r p ≡ Refused 11 r

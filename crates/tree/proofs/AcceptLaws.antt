@@ -9,7 +9,7 @@ use native.Mathlib.Omega.{arith}
 use borrow.Author.Tests.{eqb-true, eqb-false, eq-eqb, ne-eqb, ltb-true, ltb-false, lt-ltb, le-ltb, leb-true, le-leb}
 use borrow.Author.Tests.{not-false}
 use lib.Dec.{eqb, ltb}
-use Rattle.tree.specs.Search.{least}
+use Rattle.tree.specs.Search.{least, someBelow}
 use Rattle.tree.specs.Table.{Table, at, shortest, countOk}
 use Rattle.tree.specs.Sound.{rowOf, hasName, firstBad}
 use Rattle.tree.specs.Rules.{Sound}
@@ -61,7 +61,7 @@ piece-ok p = (
 
 -- its own check passes exactly if refusals 10 to 14 do not apply
 pub insert-passes : (t : Table) (r : ℕ) (p : Table) → (insertCheck t r p ≡ Passed) ↔ InsertFits t r p
-unfolding insertCheck givenAt
+unfolding insertCheck givenAt someBelow
 insert-passes t r p = (there, back)
   where
     tooDeep : ℕ → Bool

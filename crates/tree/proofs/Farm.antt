@@ -5,7 +5,7 @@ use mathlib.Core.Path.{_≡_, refl}
 use mathlib.Core.List.{List, [], _∷_, map}
 use lib.IntN.{pos, negsuc}
 use lib.ListN.{replicate}
-use Rattle.tree.specs.Search.{least, nearest, gather}
+use Rattle.tree.specs.Search.{least, someBelow, nearest, gather}
 use Rattle.tree.specs.Table.{tableOf, shortest, countOk}
 use Rattle.tree.specs.Sound.{levelOk, runOf, sizeOf, sizeOk, kindOk, hasName, nameOk}
 use Rattle.tree.specs.Sound.{rowOf, keyOk, restOk, rowOk, firstBad}
@@ -198,5 +198,5 @@ unfolding checkOutcome findOutcome foundIf located stepOutcome stepIf stepCheck 
     deleteDone renameDone drops remaining keptCount listed reached linesOf stepList pairsOf withRole rolesOf rowsOf
     before outOfOrder some distinct testOk passes axisOk following preceding onAxis parent above ancestor siblings
     levelOk runOf sizeOf sizeOk kindOk hasName nameOk rowOf keyOk restOk rowOk firstBad shortest countOk least nearest
-    gather
+    someBelow gather
 small-farm = refl

@@ -5,7 +5,7 @@ use mathlib.Core.Bool.{Bool, cond, not, _&&_, _||_}
 use mathlib.Core.List.{List}
 use lib.Dec.{ltb, leb, eqb}
 use lib.ListN.{length}
-use Rattle.tree.specs.Search.{least}
+use Rattle.tree.specs.Search.{least, someBelow}
 use Rattle.tree.specs.Table.{Table, at, shortest, countOk}
 use Rattle.tree.specs.Sound.{firstBad, rowOf, hasName}
 use Rattle.tree.specs.Axis.{axisOk}
@@ -60,7 +60,7 @@ unfoldable pub insertCheck : Table → ℕ → Table → Checked
 insertCheck t r p =
     next (given (badPiece p) 10 0)
     (next (given (not (leb (at (t .kind) r) 1)) 11 r)
-    (next (given (ltb (least (λ i. ltb 63 (at (p .level) i + (at (t .level) r + 1))) (p .count)) (p .count)) 12 0)
+    (next (given (someBelow (λ i. ltb 63 (at (p .level) i + (at (t .level) r + 1))) (p .count)) 12 0)
     (next (givenAt (λ i. ltb (rowOf (t .key) (t .count) (at (p .key) i)) (t .count)) (p .count) 13)
     (given (ltb 4096 (t .count + p .count) || ltb (shortest t) (t .count + p .count)) 14 0))))
 
