@@ -2,8 +2,8 @@
 -- the contexts; `role-..` are the rows reached below a row; `cover-..` are the steps of a function that writes them,
 -- ascending. Assumes nothing.
 use mathlib.Core.Path.{_≡_, refl, sym, ap, _∙_}
-use mathlib.Core.Logic.{_⊎_, inl, inr, ⊎-elim, _↔_}
-use mathlib.Core.Bool.{Bool, true, false, _&&_, _||_, or-true, false≢true}
+use mathlib.Core.Logic.{_⊎_, inl, inr, ⊎-elim}
+use mathlib.Core.Bool.{Bool, true, false, _&&_, _||_, or-true}
 use mathlib.Core.List.{List, [], _∷_, _++_}
 use Prim.Native.Nat.{ℕ, zero, suc, _+_, _<_, _≤_}
 use native.Mathlib.Nat.{le-of-suc-le-suc, not-suc-le-zero, eq-or-lt-of-le}
@@ -15,7 +15,6 @@ use Rattle.tree.specs.Search.{gather}
 use Rattle.tree.specs.Table.{at}
 use Rattle.tree.specs.Axis.{onAxis}
 use Rattle.tree.proofs.SearchLaws.{gather-zero, gather-skip, gather-grows}
-use Rattle.tree.proofs.SoundLaws.{either}
 use Rattle.span.specs.Want.{fits}
 use Rattle.span.specs.Reach.{anyOn, oneRole, Contexts, RoleIn, Wrote}
 use Rattle.span.specs.Range.{rowsIn, Appended, RangeIn}
@@ -56,20 +55,6 @@ module _ (axis : ℕ) (level : List ℕ) where
   any-miss (c ∷ cs) w h =
       ap (λ (b : Bool). b || anyOn axis level cs w) (h 0 (omega arith))
       ∙ any-miss cs w (λ i l. h (suc i) (omega arith))
-
-  -- exactly if some place has
-  pub any-in : (cs : List ℕ) (w : ℕ)
-      → (anyOn axis level cs w ≡ true) ↔ ((i : ℕ) × (i < length cs) × (onAxis axis level (at cs i) w ≡ true))
-  unfolding anyOn
-  any-in cs w = (there cs, λ h. any-hit cs w (h .0) (h .1) (h .2))
-    where
-      there : (cs : List ℕ) → anyOn axis level cs w ≡ true
-          → (i : ℕ) × (i < length cs) × (onAxis axis level (at cs i) w ≡ true)
-      there [] e = absurd (false≢true e)
-      there (c ∷ cs) e = ⊎-elim
-          (λ h. (0, omega arith, h))
-          (λ h. let r = there cs h in (suc (r .0), omega (arith, r .1), r .2))
-          (either (onAxis axis level c w) (anyOn axis level cs w) e)
 
 -- ── the rows reached below a row ──
 -- row w is reached
