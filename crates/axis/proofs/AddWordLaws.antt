@@ -11,11 +11,11 @@ use lib.ListN.{length, set}
 use lib.Seq.{getD-set-same, getD-set-other}
 use lib.Bits.{bitOr, or-add-and, and-le-l}
 use Rattle.tree.specs.Table.{at}
+use Rattle.tree.proofs.TreeLaws.{less?}
 use Rattle.axis.specs.RowSet.{bit, has, inWord, RowSet}
 use Rattle.axis.specs.Mark.{Joined}
 use Rattle.axis.proofs.BitLaws.{bit-or, bit-high}
 use Rattle.axis.proofs.RowSetLaws.{bit-with}
-use Rattle.axis.proofs.HopLaws.{less?}
 
 -- a row of the word, by its bit; any other is not in it
 in-word-bit : (j word w : ℕ) → w / 64 ≡ j → inWord (64 * j) word w ≡ bit word (w % 64)

@@ -5,7 +5,7 @@
 use Prim.Native.Nat.{ℕ, zero, suc, _<_, _≤_}
 use mathlib.Core.Path.{_≡_, refl, sym, ap, subst, _∙_}
 use mathlib.Core.Logic.{⊎-elim}
-use mathlib.Core.Bool.{Bool, true, false, _&&_, _||_, false≢true}
+use mathlib.Core.Bool.{Bool, true, _&&_, _||_, false≢true}
 use mathlib.Core.List.{List}
 use native.Mathlib.Nat.{le-refl, eq-or-lt-of-le}
 use native.Mathlib.Omega.{arith}
@@ -14,13 +14,12 @@ use lib.Dec.{eqb, leb}
 use Rattle.tree.specs.Table.{at}
 use Rattle.tree.specs.Tree.{parent, ancestor}
 use Rattle.tree.specs.Rules.{Shape}
-use Rattle.tree.proofs.TreeLaws.{Under, parent-below, from-parent, under-parent, ancestor-under}
+use Rattle.tree.proofs.TreeLaws.{Under, less?, parent-below, from-parent, under-parent, ancestor-under}
 use Rattle.tree.proofs.SoundLaws.{shape-steps, both, both-of, either, either-left, either-right}
 use Rattle.tree.proofs.AxisLaws.{same-test}
 use Rattle.axis.specs.RowSet.{has, Added}
 use Rattle.axis.specs.Mark.{onPath, Joined, Climbs}
 use Rattle.axis.proofs.MarkLaws.{joined-none, joined-as, joined-add}
-use Rattle.axis.proofs.HopLaws.{less?}
 
 -- a parent is an earlier row
 pub parent-low : (level : List ℕ) (v : ℕ) → parent level v ≤ v

@@ -14,11 +14,11 @@ use Rattle.tree.specs.Tree.{parent}
 use Rattle.tree.specs.Axis.{onAxis}
 use Rattle.tree.proofs.TreeLaws.{parent-below}
 use Rattle.tree.proofs.SoundLaws.{both, both-of}
-use Rattle.tree.proofs.AxisLaws.{same-test}
+use Rattle.tree.proofs.AxisLaws.{same-test, false-of}
 use Rattle.axis.specs.RowSet.{Marked}
 use Rattle.axis.specs.Mark.{childIn, Joined, Hops, Turn}
 use Rattle.axis.proofs.HopLaws.{child-within, child-first, ChildIn, child-in, in-child}
-use Rattle.axis.proofs.TurnLaws.{marked-also, turn-row, turn-drop, none-drop, false-of}
+use Rattle.axis.proofs.TurnLaws.{marked-also, turn-row, turn-drop, none-drop}
 use Rattle.axis.proofs.SiblingLaws.{earlier-on, on-earlier}
 
 module _ {size level : List ℕ} {n : ℕ} {cs : List ℕ} {i : ℕ} {old : List ℕ} {u : ℕ}

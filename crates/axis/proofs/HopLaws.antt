@@ -1,21 +1,21 @@
 -- The children of a row in rows whose levels and sizes make a tree, met by hops over subtrees: `child-within`,
 -- `child-first`, `child-next`, `child-none`, `child-empty`. The walk that puts them into a set, word by word:
 -- `hop-start`, `hop-gathers`, `hop-next`, `hop-done`, and where it has nothing to do, `hop-nothing`, `hop-met`.
--- Assumes nothing.
+-- Its rows are in use: `row-in-use`. Assumes nothing.
 use Prim.Native.Nat.{ℕ, suc, _+_, _*_, _/_, _<_, _≤_}
 use mathlib.Core.Path.{_≡_, refl, sym, ap, _∙_}
-use mathlib.Core.Logic.{_⊎_, inl, inr, ⊎-elim}
-use mathlib.Core.Bool.{Bool, true, false, _&&_, _||_}
+use mathlib.Core.Logic.{_⊎_, ⊎-elim}
+use mathlib.Core.Bool.{Bool, true, _&&_, _||_}
 use mathlib.Core.List.{List}
 use native.Mathlib.Nat.{le-refl, eq-or-lt-of-le}
 use native.Mathlib.Numerals.{add-one}
 use native.Mathlib.Omega.{arith}
-use borrow.Author.Tests.{eqb-true, eq-eqb, ltb-true, ltb-false, lt-ltb, leb-true, le-leb}
+use borrow.Author.Tests.{eqb-true, eq-eqb, ltb-true, lt-ltb, leb-true, le-leb}
 use lib.Dec.{eqb, ltb, leb}
 use Rattle.tree.specs.Table.{at}
 use Rattle.tree.specs.Tree.{parent}
 use Rattle.tree.specs.Rules.{Shape}
-use Rattle.tree.proofs.TreeLaws.{Under, parent-is, parent-less, parent-below, under-parent, ancestor-under}
+use Rattle.tree.proofs.TreeLaws.{Under, less?, parent-is, parent-less, parent-below, under-parent, ancestor-under}
 use Rattle.tree.proofs.SoundLaws.{shape-steps, shape-descendants, shape-fits}
 use Rattle.tree.proofs.SoundLaws.{both, both-of, either, either-left, either-right}
 use Rattle.tree.proofs.AxisLaws.{same-test}
@@ -23,16 +23,12 @@ use Rattle.axis.specs.RowSet.{has, inWord}
 use Rattle.axis.specs.Mark.{childIn, Joined, Hops, Gathers, Gathered}
 use Rattle.axis.proofs.MarkLaws.{joined-none, joined-as, joined-more}
 
--- a is below b, or not
-pub less? : (a b : ℕ) → (a < b) ⊎ (b ≤ a)
-less? a b = go (ltb a b) refl
-  where
-    go : (t : Bool) → ltb a b ≡ t → (a < b) ⊎ (b ≤ a)
-    go true e = inl (ltb-true a b e)
-    go false e = inr (ltb-false a b e)
-
 -- ── children ──
 module _ {size level : List ℕ} {n : ℕ} (s : Shape size level n) where
+  -- a row not past the descendants of a row is in use
+  pub row-in-use : {p e : ℕ} → p < n → e ≤ p + at size p + 1 → (v : ℕ) → v < e → v < n
+  row-in-use {p} m h v q = omega (arith, shape-fits s p m)
+
   -- the next size rows are deeper, and no row past them is deeper without a break
   in-under : (c w : ℕ) → c < n → c < w → w ≤ c + at size c → Under level c w
   in-under c w m a b =
@@ -149,10 +145,6 @@ pub record Hopped (level : List ℕ) (p a e : ℕ) (old words : List ℕ) (used 
   pub joined : Joined (childIn level p a v) old words used
 
 module _ {size level : List ℕ} {n p a e : ℕ} {old : List ℕ} {u : ℕ} (h : Hops size level n p a e old u) where
-  -- a row before e is in use
-  pub hop-row : (v : ℕ) → v < e → v < n
-  hop-row v q = omega (arith, h .inside, shape-fits (h .shape) p (h .row))
-
   -- there is no child
   pub hop-nothing : e ≤ a → Joined (childIn level p a e) old old u
   hop-nothing q = joined-none (childIn level p a e) (h .set) (λ w l t.

@@ -11,13 +11,13 @@ use lib.ListN.{take}
 use Rattle.tree.specs.Table.{at}
 use Rattle.tree.specs.Tree.{parent}
 use Rattle.tree.specs.Axis.{onAxis}
-use Rattle.tree.proofs.TreeLaws.{parent-below}
+use Rattle.tree.proofs.TreeLaws.{less?, parent-below}
 use Rattle.tree.proofs.SoundLaws.{both, both-of}
-use Rattle.tree.proofs.AxisLaws.{same-test}
+use Rattle.tree.proofs.AxisLaws.{same-test, false-of}
 use Rattle.axis.specs.RowSet.{Marked}
 use Rattle.axis.specs.Mark.{childIn, Joined, Hops, Turn}
-use Rattle.axis.proofs.HopLaws.{less?, child-within, child-next, child-none, ChildIn, child-in, in-child}
-use Rattle.axis.proofs.TurnLaws.{marked-also, turn-row, parent-fits, turn-take, none-take, false-of}
+use Rattle.axis.proofs.HopLaws.{child-within, child-next, child-none, ChildIn, child-in, in-child}
+use Rattle.axis.proofs.TurnLaws.{marked-also, turn-row, parent-fits, turn-take, none-take}
 use Rattle.axis.proofs.SiblingLaws.{later-on, on-later}
 
 module _ {size level : List ℕ} {n : ℕ} {cs : List ℕ} {i : ℕ} {old : List ℕ} {u : ℕ}

@@ -3,7 +3,7 @@
 -- a context that has nothing `none-take`, `none-drop`. The first turn and the last: `marks-..`, `take-done`,
 -- `drop-done`. Assumes nothing.
 use Prim.Native.Nat.{ℕ, suc, _+_, _-_, _<_, _≤_}
-use mathlib.Core.Path.{_≡_, refl, sym, ap, subst, _∙_}
+use mathlib.Core.Path.{_≡_, sym, ap, subst, _∙_}
 use mathlib.Core.Bool.{Bool, true, false, _&&_, and-false, false≢true}
 use mathlib.Core.List.{List, _∷_}
 use native.Mathlib.Numerals.{add-one}
@@ -21,11 +21,6 @@ use Rattle.span.specs.Reach.{anyOn, Parents}
 use Rattle.axis.specs.RowSet.{has, Marked, Marks}
 use Rattle.axis.specs.Mark.{Joined, Turn}
 use Rattle.axis.proofs.MarkLaws.{any-take-more, any-also, joined-none, marked-none, marked-as, marked-more}
-
--- a test that cannot pass
-pub false-of : (b : Bool) → (b ≡ true → ⊥) → b ≡ false
-false-of true h = absurd (h refl)
-false-of false h = refl
 
 -- where each context so far that reaches x reaches y too, the set has y if it has x
 pub marked-also : {axis : ℕ} {level : List ℕ} {n : ℕ} {cs words : List ℕ} {used : ℕ}

@@ -1,5 +1,5 @@
--- The children of a row that are in one word, gathered into its bits: their rows are in use (`gathers-row`,
--- `gathers-hop`), none is gathered yet (`gathered-start`), one more is (`gathered-next`), and there is one
+-- The children of a row that are in one word, gathered into its bits: their hops stay in the rows in
+-- use (`gathers-hop`), none is gathered yet (`gathered-start`), one more is (`gathered-next`), and there is one
 -- (`gathered-some`). Assumes nothing.
 use Prim.Native.Nat.{ℕ, suc, _+_, _-_, _*_, _/_, _%_, _^_, _<_, _≤_}
 use mathlib.Core.Path.{_≡_, refl, sym, ap, _∙_}
@@ -13,13 +13,14 @@ use lib.Dec.{eqb, leb}
 use lib.Bits.{bitOr}
 use Rattle.tree.specs.Table.{at}
 use Rattle.tree.specs.Tree.{parent}
+use Rattle.tree.proofs.TreeLaws.{less?}
 use Rattle.tree.proofs.SoundLaws.{shape-fits, both, either, either-left, either-right}
 use Rattle.tree.proofs.AxisLaws.{same-test}
 use Rattle.axis.specs.RowSet.{bit, inWord}
 use Rattle.axis.specs.Mark.{childIn, Gathers, Gathered}
 use Rattle.axis.proofs.BitLaws.{bit-zero, bit-nonzero}
 use Rattle.axis.proofs.RowSetLaws.{bit-with}
-use Rattle.axis.proofs.HopLaws.{less?, child-next, child-none, child-empty, ChildIn, child-in, in-child}
+use Rattle.axis.proofs.HopLaws.{row-in-use, child-next, child-none, child-empty, ChildIn, child-in, in-child}
 
 -- a word that is 0 has no row
 word-zero : (base w : ℕ) → inWord base 0 w ≡ false
@@ -51,13 +52,9 @@ word-with j word v w h = go (leb (64 * j) w) refl
         sym (ap (λ (t : Bool). t || false) (ne-eqb w v (λ q. omega arith)))
 
 module _ {size level : List ℕ} {n p a e : ℕ} (h : Gathers size level n p a e) where
-  -- a row before e is in use
-  pub gathers-row : (v : ℕ) → v < e → v < n
-  gathers-row v q = omega (arith, h .inside, shape-fits (h .shape) p (h .row))
-
   -- its hop stays in the columns
   pub gathers-hop : (v : ℕ) → v < e → v + at size v < n
-  gathers-hop v q = omega (arith, shape-fits (h .shape) v (gathers-row v q))
+  gathers-hop v q = omega (arith, shape-fits (h .shape) v (row-in-use (h .shape) (h .row) (h .inside) v q))
 
   pub gathered-start : Gathered size level p a e a 0
   gathered-start = record {
@@ -103,7 +100,8 @@ module _ {size level : List ℕ} {n p a e : ℕ} (h : Gathers size level n p a e
               (in-child level p a v w record { child = x .child; from = x .from; before = z }))
               (λ (z : v ≤ w). ⊎-elim
               (λ (y : v < w).
-              absurd (child-none (h .shape) p v w (gathers-row v q) is-child y (omega arith) (x .child)))
+              absurd (child-none (h .shape) p v w (row-in-use (h .shape) (h .row) (h .inside) v q) is-child y
+              (omega arith) (x .child)))
               (λ (y : w ≤ v). either-left (childIn level p a v w) (eq-eqb w v (omega arith)))
               (less? v w))
               (less? w v)
@@ -113,7 +111,8 @@ module _ {size level : List ℕ} {n p a e : ℕ} (h : Gathers size level n p a e
       gathered-next = record {
         low = omega (arith, s .low);
         child = λ z. ap (parent level) k
-            ∙ child-next (h .shape) p v (h .row) (gathers-row v q) is-child (omega arith);
+            ∙ child-next (h .shape) p v (h .row) (row-in-use (h .shape) (h .row) (h .inside) v q) is-child
+            (omega arith);
         inside = λ w t. ⊎-elim
             (λ z. let g : w ≡ v = eqb-true w v z in omega arith)
             (λ z. s .inside w z)

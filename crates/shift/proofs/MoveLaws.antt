@@ -1,20 +1,20 @@
 -- What the movers' loops keep, over lists. Shifting down: `down-start`, `down-turn`, `down-end`. Writing from the
 -- front on: `put-start`, `put-turn`, `put-end`, with the source rows raised, rows further on, or zeros:
--- `raised-turn`, `up-turn`, `clear-turn`, `clear-end`. A part lent and back: `tail-mid`, `tail-put`. What they make
--- of a part and of a column: `open-part`, `open-column`, `close-column`, `clear-column`, `pulled-cleared`. Assumes
--- nothing.
+-- `raised-turn`, `up-turn`, `clear-turn`, `clear-end`. What they make of a part and of a column: `open-part`,
+-- `open-column`, `close-column`, `clear-column`, `pulled-cleared`. Assumes nothing.
 use mathlib.Core.Path.{_≡_, refl, sym, ap, ap₂, _∙_, subst}
-use mathlib.Core.List.{List, [], _∷_, _++_, map, append-assoc, append-nil}
+use mathlib.Core.List.{List, [], _∷_, _++_, map, append-assoc}
 use Prim.Native.Nat.{ℕ, zero, suc, _+_, _-_, _≤_, _<_}
 use native.Mathlib.Nat.{add-comm, zero-add, not-suc-le-zero, le-of-suc-le-suc, le-antisymm}
 use native.Mathlib.Omega.{arith}
 use native.Mathlib.Numerals.{add-one}
 use lib.ListN.{length, take, drop, getD, set, length-set, length-append, length-drop, replicate, length-replicate}
-use lib.ListN.{getD-replicate, take-append-drop, List·getD-append, drop-of-length-le, length-map}
+use lib.ListN.{getD-replicate, take-append-drop, List·getD-append, length-map}
 use lib.Seq.{getD-append-add, getD-drop, slice, take-all, slice-empty, slice-cons, take-suc, length-take-le, set-at}
 use lib.Seq.{getD-take, take-at, drop-at, drop-drop}
 use borrow.Rule.Slice.PartMut.{midOf, putMid}
 use Rattle.tree.specs.Edit.{opened, closed}
+use Rattle.tree.proofs.ColumnLaws.{tail-mid, tail-put}
 use Rattle.shift.specs.Part.{shifted, openedPart, pulled, cleared}
 
 -- ── shifting down ──
@@ -141,16 +141,6 @@ pub clear-end : {xs part : List ℕ} {i : ℕ} (n : ℕ) → Put (replicate n 0)
 clear-end {xs} n p h k =
     put-end n p h k ∙ ap (λ (z : List ℕ). z ++ drop n xs)
     (take-all n (replicate n 0) (rw length-replicate (omega arith)))
-
--- ── the part of a column from a on, lent and back ──
-pub tail-mid : (a : ℕ) (xs : List ℕ) → midOf a (length xs - a) xs ≡ drop a xs
-tail-mid a xs = take-all (length xs - a) (drop a xs) (simp length-drop (omega arith))
-
-pub tail-put : (a : ℕ) (xs ys : List ℕ) → putMid a (length xs - a) xs ys ≡ take a xs ++ ys
-tail-put a xs ys =
-    ap (λ (z : List ℕ). take a xs ++ (ys ++ z))
-    (drop-of-length-le (drop a xs) {i = length xs - a} (simp length-drop (omega arith)))
-    ∙ ap (λ (z : List ℕ). take a xs ++ z) (append-nil ys)
 
 -- ── the parts that the movers make ──
 -- shifted down, then the piece over the front

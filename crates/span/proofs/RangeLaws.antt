@@ -2,14 +2,12 @@
 -- the contexts; `role-..` are the rows reached below a row; `cover-..` are the steps of a function that writes them,
 -- ascending. Assumes nothing.
 use mathlib.Core.Path.{_≡_, refl, sym, ap, _∙_}
-use mathlib.Core.Logic.{_⊎_, inl, inr, ⊎-elim}
+use mathlib.Core.Logic.{_⊎_, ⊎-elim}
 use mathlib.Core.Bool.{Bool, true, false, _&&_, _||_, or-true}
 use mathlib.Core.List.{List, [], _∷_, _++_}
 use Prim.Native.Nat.{ℕ, zero, suc, _+_, _<_, _≤_}
 use native.Mathlib.Nat.{le-of-suc-le-suc, not-suc-le-zero, eq-or-lt-of-le}
 use native.Mathlib.Omega.{arith}
-use borrow.Author.Tests.{ltb-true, ltb-false}
-use lib.Dec.{ltb}
 use lib.ListN.{length, length-append}
 use Rattle.tree.specs.Search.{gather}
 use Rattle.tree.specs.Table.{at}
@@ -21,14 +19,6 @@ use Rattle.span.specs.Range.{rowsIn, Appended, RangeIn}
 use Rattle.span.proofs.WroteLaws.{wrote-as, wrote-none, wrote-length}
 use Rattle.span.proofs.AppendedLaws.{wrote-appended}
 use Rattle.span.proofs.ScanLaws.{rows-join, rows-same}
-
--- one of two orders
-pub less? : (a b : ℕ) → (a < b) ⊎ (b ≤ a)
-less? a b = go (ltb a b) refl
-  where
-    go : (t : Bool) → ltb a b ≡ t → (a < b) ⊎ (b ≤ a)
-    go true e = inl (ltb-true a b e)
-    go false e = inr (ltb-false a b e)
 
 -- contexts do not fall, from a place to itself or a later one
 pub contexts-rise : {cs : List ℕ} {n : ℕ} → Contexts cs n → (i j : ℕ) → i ≤ j → j < length cs → at cs i ≤ at cs j

@@ -15,13 +15,13 @@ use lib.ListN.{length}
 use Rattle.tree.specs.Table.{at}
 use Rattle.tree.specs.Axis.{onAxis}
 use Rattle.tree.specs.Rules.{Shape}
-use Rattle.tree.proofs.TreeLaws.{Under, ancestor-under}
+use Rattle.tree.proofs.TreeLaws.{Under, less?, ancestor-under}
 use Rattle.tree.proofs.SoundLaws.{shape-steps, shape-descendants, shape-fits}
 use Rattle.tree.proofs.AxisLaws.{following-is, preceding-is}
 use Rattle.span.specs.Want.{fits}
 use Rattle.span.specs.Reach.{anyOn, oneRole, Contexts, RoleIn, Wrote}
 use Rattle.span.specs.Range.{rowsIn, Appended, RangeIn, EndsIn, firstAfter, Nests, Ended}
-use Rattle.span.proofs.RangeLaws.{less?, contexts-rise, any-hit, any-miss, Covered, cover-start, cover-skip}
+use Rattle.span.proofs.RangeLaws.{contexts-rise, any-hit, any-miss, Covered, cover-start, cover-skip}
 use Rattle.span.proofs.RangeLaws.{cover-range, cover-asks, cover-done}
 
 -- ── the least row after one of the contexts ──

@@ -16,12 +16,13 @@ use Rattle.tree.specs.Table.{at}
 use Rattle.tree.specs.Tree.{ancestor}
 use Rattle.tree.specs.Axis.{onAxis}
 use Rattle.tree.specs.Rules.{Shape}
+use Rattle.tree.proofs.TreeLaws.{less?}
 use Rattle.tree.proofs.SoundLaws.{both, both-of, either, either-left, either-right, shape-fits}
 use Rattle.tree.proofs.AxisLaws.{same-test, ancestor-is}
 use Rattle.span.specs.Want.{fits}
 use Rattle.span.specs.Reach.{anyOn, oneRole, RoleIn, Wrote}
 use Rattle.span.specs.Range.{rowsIn, Appended, RangeIn}
-use Rattle.span.proofs.RangeLaws.{less?, contexts-rise, any-hit, any-miss, Covered, cover-start, cover-skip}
+use Rattle.span.proofs.RangeLaws.{contexts-rise, any-hit, any-miss, Covered, cover-start, cover-skip}
 use Rattle.span.proofs.RangeLaws.{cover-range, cover-asks, cover-done}
 
 -- the rows on the axis of a context c are those from first c to last c

@@ -2,13 +2,14 @@
 -- (`wrote-more`), and what a part lent from there on begins with (`wrote-part`); it keeps its length (`wrote-length`).
 -- Assumes nothing.
 use mathlib.Core.Path.{_≡_, refl, sym, ap, ap₂, subst, _∙_}
-use mathlib.Core.List.{List, [], _∷_, _++_, append-assoc, append-nil}
+use mathlib.Core.List.{List, [], _∷_, _++_, append-assoc}
 use Prim.Native.Nat.{ℕ, suc, _+_, _-_, _<_, _≤_}
 use native.Mathlib.Omega.{arith}
-use lib.ListN.{length, getD, set, take, drop, length-append, length-drop, drop-of-length-le}
-use lib.Seq.{drop-cons, set-at, append-snoc, take-at, drop-at, take-all, drop-drop}
+use lib.ListN.{length, getD, set, take, drop, length-append, length-drop}
+use lib.Seq.{drop-cons, set-at, append-snoc, take-at, drop-at, drop-drop}
 use borrow.Rule.Slice.PartMut.{midOf, putMid}
 use Rattle.tree.specs.Outcome.{overwritten}
+use Rattle.tree.proofs.ColumnLaws.{tail-mid, tail-put}
 use Rattle.span.specs.Reach.{Wrote}
 
 -- by nothing
@@ -42,16 +43,6 @@ overwritten-twice xs ys old =
     ∙ ap (λ (z : List ℕ). xs ++ (ys ++ z)) (drop-drop (length ys) (length xs) old)
     ∙ sym (append-assoc xs ys (drop (length xs + length ys) old))
     ∙ ap (λ (j : ℕ). xs ++ ys ++ drop j old) (sym (length-append xs ys))
-
--- the part of a column from a on, lent and back
-tail-mid : (a : ℕ) (xs : List ℕ) → midOf a (length xs - a) xs ≡ drop a xs
-tail-mid a xs = take-all (length xs - a) (drop a xs) (simp length-drop (omega arith))
-
-tail-put : (a : ℕ) (xs ys : List ℕ) → putMid a (length xs - a) xs ys ≡ take a xs ++ ys
-tail-put a xs ys =
-    let short : length (drop a xs) ≤ length xs - a = simp length-drop (omega arith) in
-    let none : drop (length xs - a) (drop a xs) ≡ [] = drop-of-length-le (drop a xs) short in
-    ap (λ (z : List ℕ). take a xs ++ (ys ++ z)) none ∙ ap (λ (z : List ℕ). take a xs ++ z) (append-nil ys)
 
 -- the same, of an equal list
 pub wrote-as : {xs ys old new : List ℕ} {r : ℕ} → xs ≡ ys → Wrote xs old r new → Wrote ys old r new

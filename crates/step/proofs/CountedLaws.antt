@@ -18,7 +18,7 @@ use Rattle.tree.specs.Step.{Ask, stepList, linesOf}
 use Rattle.tree.specs.StepRules.{PairsFit}
 use Rattle.tree.specs.Refusal.{given, next, askCheck}
 use Rattle.tree.specs.declared.Checked.the-variants.{Passed}
-use Rattle.tree.proofs.SearchLaws.{gather-zero, gather-suc}
+use Rattle.tree.proofs.SearchLaws.{gather-zero, gather-length}
 use Rattle.tree.proofs.SoundLaws.{sound-shape, next-passed, given-passed}
 use Rattle.tree.proofs.RoleLaws.{pair-passes}
 use Rattle.span.specs.Want.{wantedKind, fits}
@@ -34,8 +34,7 @@ use Rattle.step.proofs.RunLaws.{roleRows, step-run, run-contexts}
 pub gather-most : (f : ℕ → Bool) (n : ℕ) → length (gather f n) ≤ n
 gather-most f zero = rw (gather-zero f) (le-refl 0)
 gather-most f (suc n) =
-    let e = ap length (gather-suc f n) ∙ length-append (gather f n) (only (f n) n) in
-    omega (arith, gather-most f n, one (f n))
+    omega (arith, gather-length f n, gather-most f n, one (f n))
   where
     one : (b : Bool) → length (only b n) ≤ 1
     one true = le-refl 1

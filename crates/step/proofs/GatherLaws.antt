@@ -1,19 +1,16 @@
 -- How many numbers a search gathers, at most: `gather-within`, where they lie in a range; `gather-less`, where they
 -- pass another test too; `gather-either`, where each passes one of two tests. Assumes nothing.
-use mathlib.Core.Path.{_≡_, refl, ap, _∙_}
+use mathlib.Core.Path.{_≡_, refl, ap}
 use mathlib.Core.Bool.{Bool, true, false, _||_}
 use Prim.Native.Nat.{ℕ, zero, suc, _+_, _-_, _<_, _≤_, min}
 use native.Mathlib.Nat.{le-refl}
 use native.Mathlib.Omega.{arith}
-use lib.ListN.{length, length-append}
+use lib.ListN.{length}
 use Rattle.tree.specs.Search.{gather, only}
-use Rattle.tree.proofs.SearchLaws.{gather-zero, gather-suc}
+use Rattle.tree.proofs.SearchLaws.{gather-zero, gather-length}
 
 gather-nothing : (f : ℕ → Bool) → length (gather f 0) ≡ 0
 gather-nothing f = ap length (gather-zero f)
-
-gather-length : (f : ℕ → Bool) (n : ℕ) → length (gather f (suc n)) ≡ length (gather f n) + length (only (f n) n)
-gather-length f n = ap length (gather-suc f n) ∙ length-append (gather f n) (only (f n) n)
 
 gather-between : (f : ℕ → Bool) (a b n : ℕ) → ((w : ℕ) → w < n → f w ≡ true → (a ≤ w) × (w < b))
     → length (gather f n) ≤ min n b - a

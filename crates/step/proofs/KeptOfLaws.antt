@@ -17,7 +17,7 @@ use Rattle.tree.specs.Search.{gather, only}
 use Rattle.tree.specs.Table.{at}
 use Rattle.tree.specs.Pairs.{Pair, pair, withRole, some}
 use Rattle.tree.specs.Kept.{drops, remaining, keptCount}
-use Rattle.tree.proofs.SearchLaws.{gather-zero, gather-suc, gather-yes, gather-skip, gather-ext, only-none, only-one}
+use Rattle.tree.proofs.SearchLaws.{gather-zero, gather-length, gather-yes, gather-skip, gather-ext, only-none, only-one}
 use Rattle.step.specs.KeptOf.{keptOf}
 
 -- ── rows by a test ──
@@ -92,22 +92,19 @@ gather-more : (f g : ℕ → Bool) (c n : ℕ) → c < n → ((w : ℕ) → (w �
 gather-more f g c zero l h p q = absurd (not-suc-le-zero l)
 gather-more f g c (suc n) l h p q = ⊎-elim
     (λ (e : c ≡ n).
-    let a = length-next f n in
-    let b = length-next g n in
+    let a = gather-length f n in
+    let b = gather-length g n in
     let same = ap length (gather-ext f g n (λ w m. h w (λ z. omega arith))) in
     let i : length (only (f n) n) ≡ 1 = ap length (only-one (f n) n (ap f (sym e) ∙ p)) in
     let o : length (only (g n) n) ≡ 0 = ap length (only-none (g n) n (ap g (sym e) ∙ q)) in
     omega arith)
     (λ (m : c < n).
-    let a = length-next f n in
-    let b = length-next g n in
+    let a = gather-length f n in
+    let b = gather-length g n in
     let ih = gather-more f g c n m h p q in
     let same = ap (λ (t : Bool). length (only t n)) (h n (λ z. omega arith)) in
     omega arith)
     (eq-or-lt-of-le (le-of-suc-le-suc l))
-  where
-    length-next : (f : ℕ → Bool) (n : ℕ) → length (gather f (suc n)) ≡ length (gather f n) + length (only (f n) n)
-    length-next f n = ap length (gather-suc f n) ∙ length-append (gather f n) (only (f n) n)
 
 -- row w is one of the rows, and not gone
 abbrev stays : (ℕ → Bool) → List ℕ → ℕ → Bool

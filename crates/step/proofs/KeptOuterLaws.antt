@@ -15,10 +15,11 @@ use Rattle.tree.specs.Table.{at}
 use Rattle.tree.specs.Tree.{ancestor}
 use Rattle.tree.specs.Kept.{drops}
 use Rattle.tree.specs.Rules.{Shape}
+use Rattle.tree.proofs.TreeLaws.{less?}
 use Rattle.tree.proofs.SoundLaws.{shape-descendants, shape-fits}
 use Rattle.tree.proofs.AxisLaws.{ancestor-is}
 use Rattle.step.specs.KeptOf.{keptOf, KeptIn}
-use Rattle.span.proofs.RangeLaws.{less?, contexts-rise}
+use Rattle.span.proofs.RangeLaws.{contexts-rise}
 use Rattle.span.proofs.SideLaws.{nests}
 use Rattle.step.proofs.KeptOfLaws.{keptRow, keptBelow, kept-rows, row-none, row-dropped, row-kept}
 use Rattle.step.proofs.KeptOfLaws.{below-skip, below-next, below-none}

@@ -12,9 +12,10 @@ use borrow.Author.Tests.{lt-ltb, le-ltb}
 use lib.ListN.{length}
 use Rattle.tree.specs.Table.{at}
 use Rattle.tree.specs.Kept.{drops}
+use Rattle.tree.proofs.TreeLaws.{less?}
 use Rattle.tree.proofs.SoundLaws.{shape-descendants}
 use Rattle.step.specs.KeptOf.{keptOf, KeptIn}
-use Rattle.span.proofs.RangeLaws.{less?, contexts-rise}
+use Rattle.span.proofs.RangeLaws.{contexts-rise}
 use Rattle.step.proofs.KeptOfLaws.{keptRow, keptBelow, kept-rows, row-none, row-dropped, row-kept}
 use Rattle.step.proofs.KeptOfLaws.{below-skip, below-next, below-none}
 use Rattle.step.proofs.KeptOuterLaws.{ancestor-not-before, ancestor-not-past}

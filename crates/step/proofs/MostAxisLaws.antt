@@ -17,12 +17,12 @@ use Rattle.tree.specs.Table.{at}
 use Rattle.tree.specs.Tree.{parent, ancestor}
 use Rattle.tree.specs.Axis.{onAxis}
 use Rattle.tree.specs.Rules.{Shape}
-use Rattle.tree.proofs.TreeLaws.{parent-below}
+use Rattle.tree.proofs.TreeLaws.{less?, parent-below}
 use Rattle.tree.proofs.SoundLaws.{either, shape-descendants}
 use Rattle.tree.proofs.LevelLaws.{ancestors-count}
 use Rattle.span.specs.Reach.{Parents}
 use Rattle.step.specs.Most.{sumOf, onCount, spanOf, placeSpan, parentSpan, FewRows}
-use Rattle.axis.proofs.HopLaws.{less?, child-within}
+use Rattle.axis.proofs.HopLaws.{child-within}
 use Rattle.axis.proofs.SiblingLaws.{later-on, earlier-on}
 use Rattle.step.proofs.GatherLaws.{gather-within, gather-either}
 use Rattle.step.proofs.SumLaws.{sum-less, sum-same}

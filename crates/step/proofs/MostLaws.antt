@@ -17,12 +17,12 @@ use Rattle.tree.specs.Axis.{onAxis}
 use Rattle.tree.specs.Pairs.{pairsOf, withRole}
 use Rattle.tree.specs.Step.{Ask, stepList}
 use Rattle.tree.proofs.SearchLaws.{least-le, least-below, least-passes}
+use Rattle.tree.proofs.TreeLaws.{less?}
 use Rattle.tree.proofs.SoundLaws.{both, sound-shape}
 use Rattle.span.specs.Reach.{anyOn, oneRole}
 use Rattle.step.specs.Runs.{pairsFrom, part, RunEnd}
 use Rattle.step.specs.Steps.{Steps}
 use Rattle.step.specs.Most.{sumOf, onCount, FewRows}
-use Rattle.axis.proofs.HopLaws.{less?}
 use Rattle.step.proofs.RunLaws.{roleRows}
 use Rattle.step.proofs.CountedLaws.{length-role, pairs-fit, step-at, step-end}
 use Rattle.step.proofs.GatherLaws.{gather-within, gather-less, gather-either}

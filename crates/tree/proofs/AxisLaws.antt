@@ -1,5 +1,5 @@
 -- The axes of rows whose levels and sizes make a tree, by sizes, as tests that an engine computes: `ancestor-is`,
--- `following-is`, `preceding-is`.
+-- `following-is`, `preceding-is`. Of tests: `same-test`, two that say the same; `false-of`, one that cannot pass.
 -- Assumes nothing.
 use mathlib.Core.Path.{_≡_, refl, sym, ap, _∙_}
 use mathlib.Core.Bool.{Bool, true, false, not, _&&_, true≢false}
@@ -19,6 +19,11 @@ pub same-test : (a b : Bool) → (a ≡ true → b ≡ true) → (b ≡ true →
 same-test true b h g = sym (h refl)
 same-test false true h g = absurd (true≢false (sym (g refl)))
 same-test false false h g = refl
+
+-- a test that cannot pass
+pub false-of : (b : Bool) → (b ≡ true → ⊥) → b ≡ false
+false-of true h = absurd (h refl)
+false-of false h = refl
 
 module _ {size level : List ℕ} {n : ℕ} (s : Shape size level n) (c w : ℕ) (m : c < n) (l : w < n) where
   -- the rows that c stands above are the next size rows

@@ -2,16 +2,18 @@
 -- `opened-moves`, `closed-stays`, `closed-moves`; the rows that came in, `opened-new`, the freed ones, `closed-freed`,
 -- and the spare ones, `opened-spare`, `closed-spare`; what a row holds where sizes change: `changed-at`,
 -- `changed-not`, `changed-take`, `changed-after`. Rows in use and what follows them: `opened-is`, `closed-is`.
--- No column changes its length: `length-opened`, `length-closed`, `length-changed`. Assumes nothing.
+-- No column changes its length: `length-opened`, `length-closed`, `length-changed`. The part of a column from a place
+-- on, lent and back: `tail-mid`, `tail-put`. Assumes nothing.
 use mathlib.Core.Path.{_≡_, refl, sym, ap, ap₂, _∙_}
 use mathlib.Core.Bool.{Bool, false, cond}
-use mathlib.Core.List.{List, [], _∷_, _++_, append-assoc}
+use mathlib.Core.List.{List, [], _∷_, _++_, append-assoc, append-nil}
 use Prim.Native.Nat.{ℕ, zero, suc, _+_, _-_, _<_, _≤_}
 use native.Mathlib.Nat.{le-of-suc-le-suc, not-suc-le-zero}
 use native.Mathlib.Omega.{arith}
 use lib.ListN.{length, take, drop, replicate, length-append, length-take, length-drop, length-replicate}
-use lib.ListN.{List·getD-append, getD-replicate}
-use lib.Seq.{take-take, take-add, drop-at, length-take-le, getD-take, getD-drop, getD-append-add}
+use lib.ListN.{List·getD-append, getD-replicate, drop-of-length-le}
+use lib.Seq.{take-take, take-add, take-all, drop-at, length-take-le, getD-take, getD-drop, getD-append-add}
+use borrow.Rule.Slice.PartMut.{midOf, putMid}
 use Rattle.tree.specs.Table.{at}
 use Rattle.tree.specs.Edit.{opened, closed, changed}
 
@@ -185,3 +187,15 @@ pub length-changed : (f : ℕ → Bool) (g : ℕ → ℕ) (xs : List ℕ) → le
 unfolding changed
 length-changed f g [] = refl
 length-changed f g (x ∷ xs) = ap suc (length-changed (λ i. f (suc i)) g xs)
+
+-- ── the part of a column from a on, lent and back ──
+-- what is lent
+pub tail-mid : (a : ℕ) (xs : List ℕ) → midOf a (length xs - a) xs ≡ drop a xs
+tail-mid a xs = take-all (length xs - a) (drop a xs) (simp length-drop (omega arith))
+
+-- the column once it is back
+pub tail-put : (a : ℕ) (xs ys : List ℕ) → putMid a (length xs - a) xs ys ≡ take a xs ++ ys
+tail-put a xs ys =
+    ap (λ (z : List ℕ). take a xs ++ (ys ++ z))
+    (drop-of-length-le (drop a xs) {i = length xs - a} (simp length-drop (omega arith)))
+    ∙ ap (λ (z : List ℕ). take a xs ++ z) (append-nil ys)

@@ -4,7 +4,7 @@
 -- counted apart. Assumes nothing.
 use mathlib.Core.Path.{_≡_, refl, sym, ap, ap₂, subst, _∙_}
 use mathlib.Core.Logic.{_⊎_, inl, inr, ⊎-elim, _↔_}
-use mathlib.Core.Bool.{Bool, true, false, cond, _&&_, _||_, true≢false}
+use mathlib.Core.Bool.{Bool, true, false, cond, _&&_, _||_, true≢false, or-assoc, or-false}
 use mathlib.Core.List.{List, [], _∷_, _++_}
 use Prim.Native.Nat.{ℕ, _+_, _<_, _≤_}
 use native.Mathlib.Nat.{le-antisymm}
@@ -185,10 +185,6 @@ some-append f r [] ys = refl
 some-append f r (x ∷ xs) ys =
     ap (λ (b : Bool). (eqb (x .role) r && f (x .row)) || b) (some-append f r xs ys)
     ∙ sym (or-assoc (eqb (x .role) r && f (x .row)) (some f r xs) (some f r ys))
-  where
-    or-assoc : (a b c : Bool) → ((a || b) || c) ≡ (a || (b || c))
-    or-assoc true b c = refl
-    or-assoc false b c = refl
 
 -- none of another role
 some-none : (f : ℕ → Bool) (r : ℕ) (ys : List Pair) → ((q : Pair) → In q ys → q .role ≡ r → ⊥) → some f r ys ≡ false
@@ -197,11 +193,6 @@ some-none f r [] h = refl
 some-none f r (y ∷ ys) h =
     ap₂ (λ (a b : Bool). (a && f (y .row)) || b) (ne-eqb (y .role) r (h y (inl refl)))
     (some-none f r ys (λ q i. h q (inr i)))
-
--- nothing added
-or-no : (b : Bool) → (b || false) ≡ b
-or-no true = refl
-or-no false = refl
 
 -- the pairs ps, among all or among those that have a role of theirs
 remaining-among : (axis : ℕ) (level : List ℕ) (all few ps tail : List Pair)
@@ -214,7 +205,7 @@ remaining-among axis level all few (p ∷ ps) tail h g =
     let E : List Pair → Bool = λ l. some (λ c. eqb c (p .row)) (p .role) l in
     let e : E (ps ++ tail) ≡ E ps = some-append (λ c. eqb c (p .row)) (p .role) ps tail
     ∙ ap (λ (b : Bool). E ps || b) (some-none (λ c. eqb c (p .row)) (p .role) tail (g p (inl refl)))
-    ∙ or-no (E ps) in
+    ∙ or-false (E ps) in
     ap₂ (λ (b : Bool) (l : List Pair). cond b l (p ∷ l))
     (ap₂ (λ (a b : Bool). a || b) (h (drops axis level (p .row)) p (inl refl)) e)
     (remaining-among axis level all few ps tail (λ f q i. h f q (inr i)) (λ q i. g q (inr i)))
@@ -247,7 +238,7 @@ kept-split axis level xs ys h =
     (λ f p i. some-append f (p .role) xs ys
     ∙ ap (λ (b : Bool). some f (p .role) xs || b)
     (some-none f (p .role) ys (λ q j e. let z : p .role < q .role = h p q i j in omega arith))
-    ∙ or-no (some f (p .role) xs))
+    ∙ or-false (some f (p .role) xs))
     (λ p i q j e. let z : p .role < q .role = h p q i j in omega arith)
     ∙ ap (λ (l : List Pair). remaining axis level xs xs ++ l) (
     remaining-ext axis level (xs ++ ys) ys ys

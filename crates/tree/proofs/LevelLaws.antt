@@ -19,12 +19,12 @@ use Rattle.tree.specs.Table.{at}
 use Rattle.tree.specs.Sound.{sizeOf}
 use Rattle.tree.specs.Rules.{Shape}
 use Rattle.tree.specs.Tree.{parent, ancestor}
-use Rattle.tree.proofs.SearchLaws.{least-ext, gather-zero, gather-suc, gather-no, gather-yes, gather-ext}
+use Rattle.tree.proofs.SearchLaws.{least-ext, gather-zero, gather-length, gather-no, gather-yes, gather-ext}
 use Rattle.tree.proofs.SearchLaws.{gather-skip}
 use Rattle.tree.proofs.TreeLaws.{Under, rest-at, size-least, from-parent, under-parent, ancestor-under}
 use Rattle.tree.proofs.TreeLaws.{parent-below, parent-less}
 use Rattle.tree.proofs.SoundLaws.{shape-steps, either, either-left, either-right}
-use Rattle.tree.proofs.AxisLaws.{same-test}
+use Rattle.tree.proofs.AxisLaws.{same-test, false-of}
 
 -- ── the sizes ──
 -- columns that agree on the rows in use give the same sizes
@@ -116,8 +116,8 @@ gather-one-more f g p a b h (suc n) l =
         → length (gather g (suc n)) ≡ suc (length (gather f (suc n)))
     there m ih =
         let q : g n ≡ f n = h n (λ e. omega arith) in
-        let u = ap length (gather-suc g n) ∙ length-append (gather g n) (only (g n) n) in
-        let v = ap length (gather-suc f n) ∙ length-append (gather f n) (only (f n) n) in
+        let u = gather-length g n in
+        let v = gather-length f n in
         let z = ap (λ (b : Bool). length (only b n)) q in
         omega arith
 
@@ -125,12 +125,7 @@ module _ {size level : List ℕ} {n : ℕ} (s : Shape size level n) where
   -- no row is its own ancestor
   not-own : (p : ℕ) → p < n → ancestor level p p ≡ false
   not-own p l =
-      not-true-false (ancestor level p p)
-      (λ e. omega (arith, ancestor-under level n (shape-steps s) p p l .0 e .after))
-    where
-      not-true-false : (b : Bool) → (b ≡ true → ⊥) → b ≡ false
-      not-true-false true h = absurd (h refl)
-      not-true-false false h = refl
+      false-of (ancestor level p p) (λ e. omega (arith, ancestor-under level n (shape-steps s) p p l .0 e .after))
 
   -- a row has as many ancestors as its level says
   pub ancestors-count : (w : ℕ) → w < n → length (gather (λ c. ancestor level c w) n) ≡ at level w

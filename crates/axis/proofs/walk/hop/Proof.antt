@@ -3,7 +3,7 @@
 use Prim.Native.Nat.{_-_}
 use mathlib.Core.Path.{sym, _∙_}
 use native.Mathlib.Omega.{arith}
-use Rattle.axis.proofs.HopLaws.{Hopped, hop-start, hop-nothing, hop-met, hop-row}
+use Rattle.axis.proofs.HopLaws.{Hopped, row-in-use, hop-start, hop-nothing, hop-met}
 use Rattle.axis.proofs.HopLaws.{hop-gathers, hop-next, hop-done}
 use Rattle.axis.proofs.WordChildLaws.{gathered-some}
 use Rattle.axis.proofs.walk.hop.Statement.{statement}
@@ -21,7 +21,7 @@ returns c = hop-nothing (c .before .before .before .pre) (c .if1 .taken)
 holds-requires : tie.Need-holds-requires Inv-loop μ-loop
 holds-requires c κs =
     let h = c .before .before .before .before .pre in
-    omega (arith, hop-row h _ (c .before .if1 .left), h .shape .few)
+    omega (arith, row-in-use (h .shape) (h .row) (h .inside) _ (c .before .if1 .left), h .shape .few)
 
 returns-2 : tie.Need-returns-2 Inv-loop μ-loop
 returns-2 c =
@@ -35,7 +35,7 @@ word-end-requires : tie.Need-word-end-requires Inv-loop μ-loop
 word-end-requires c κs =
     let h = c .before .before .before .before .before .before .before .before .pre in
     let l = c .loop-test .taken in
-    (l, omega (arith, hop-row h (c .before .loop .w) l, h .shape .few))
+    (l, omega (arith, row-in-use (h .shape) (h .row) (h .inside) (c .before .loop .w) l, h .shape .few))
 
 children-in-word-requires : tie.Need-children-in-word-requires Inv-loop μ-loop
 children-in-word-requires c κs =
@@ -51,7 +51,7 @@ add-bits-requires c κs =
     let l = c .before .before .before .loop-test .taken in
     let e = c .before .before .word-end .ensures in
     let g = c .before .children-in-word .ensures in (
-      omega (arith, hop-row h (s .loop .w) l, h .shape .few),
+      omega (arith, row-in-use (h .shape) (h .row) (h .inside) (s .loop .w) l, h .shape .few),
       s .loop .inv .joined .set,
       gathered-some (hop-gathers h (s .loop .inv) l (e .1) (e .0) (e .2)) (g .0) (omega (arith, e .0, g .1)),
     )

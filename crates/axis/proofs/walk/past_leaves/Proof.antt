@@ -7,7 +7,8 @@ use borrow.Author.Needs.{needs}
 use Rattle.tree.specs.Table.{at}
 use Rattle.axis.specs.Mark.{Gathered}
 use Rattle.axis.proofs.RowSetLaws.{shifted-one}
-use Rattle.axis.proofs.WordChildLaws.{gathers-row, gathers-hop, gathered-next}
+use Rattle.axis.proofs.HopLaws.{row-in-use}
+use Rattle.axis.proofs.WordChildLaws.{gathers-hop, gathered-next}
 use Rattle.axis.proofs.walk.past_leaves.Statement.{statement}
 use Rattle.axis.proofs.walk.past_leaves.Tie as tie
 
@@ -26,12 +27,14 @@ shl-word c = search needs
 mul-below : tie.Need-mul-below Inv-loop μ-loop
 mul-below c =
     let h = c .before .before .pre .0 in
-    omega (arith, gathers-row h (c .before .loop .w) (c .loop-test .taken), h .shape .few)
+    let l = c .loop-test .taken in
+    omega (arith, row-in-use (h .shape) (h .row) (h .inside) (c .before .loop .w) l, h .shape .few)
 
 shared-slice-read-below : tie.Need-shared-slice-read-below Inv-loop μ-loop
 shared-slice-read-below c =
     let h = c .before .before .before .pre .0 in
-    omega (arith, gathers-row h (c .before .before .loop .w) (c .before .loop-test .taken), h .shape .in-size)
+    let l = c .before .loop-test .taken in
+    omega (arith, row-in-use (h .shape) (h .row) (h .inside) (c .before .before .loop .w) l, h .shape .in-size)
 
 add-w : tie.Need-add-w Inv-loop μ-loop
 add-w c = search needs
