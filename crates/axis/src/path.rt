@@ -72,14 +72,14 @@ pub(crate) fn lone_rows(
 {
     let c = rows[0];
     let q = up[c];
-    if axis == 7 {
-        return write_path(size, level, up, count, c + 1, level[c] + 1, out);
+    match axis {
+        7 => write_path(size, level, up, count, c + 1, level[c] + 1, out),
+        6 => write_path(size, level, up, count, q, level[c], out),
+        _ => {
+            if q == 0 {
+                return 0;
+            }
+            emit_one(kind, name, q - 1, q, want_kind, want_name, out, 0)
+        }
     }
-    if axis == 6 {
-        return write_path(size, level, up, count, q, level[c], out);
-    }
-    if q == 0 {
-        return 0;
-    }
-    emit_one(kind, name, q - 1, q, want_kind, want_name, out, 0)
 }

@@ -46,47 +46,28 @@ add-write-path-2 c =
 write-path-requires : tie.Need-write-path-requires
 write-path-requires c κs =
     let arm = c .before .before in
-    lone-selves-asks (head (arm .before .before) .pre) (arm .if1 .taken)
-
-same-length : tie.Need-same-length
-same-length c = search needs
-
-returns : tie.Need-returns
-returns c =
-    let call = c .before .before in
-    let arm = call .before .before .before in
-    wrote-as (sym (lone-selves-rows (head (arm .before .before) .pre) (arm .if1 .taken))) (call .write-path .ensures)
+    lone-selves-asks (head (arm .before .before) .pre) (arm .match .keys1)
 
 mul-write-path-2 : tie.Need-mul-write-path-2
 mul-write-path-2 c =
-    let h = head (c .before .before .before) .pre in
+    let h = head (c .before .before) .pre in
     omega (arith, lone-row h, h .asks .shape .few)
 
 shared-slice-read-write-path-2 : tie.Need-shared-slice-read-write-path-2
 shared-slice-read-write-path-2 c =
-    let h = head (c .before .before .before .before) .pre in
+    let h = head (c .before .before .before) .pre in
     omega (arith, lone-row h, h .asks .shape .in-level)
 
 write-path-requires-2 : tie.Need-write-path-requires-2
 write-path-requires-2 c κs =
     let arm = c .before .before in
-    lone-above-asks (head (arm .before .before .before) .pre) (arm .if2 .taken)
+    lone-above-asks (head (arm .before .before) .pre) (arm .match .keys2)
 
-same-length-2 : tie.Need-same-length-2
-same-length-2 c = search needs
-
-returns-2 : tie.Need-returns-2
-returns-2 c =
-    let call = c .before .before in
-    let arm = call .before .before .before in
-    wrote-as (sym (lone-above-rows (head (arm .before .before .before) .pre) (arm .if2 .taken)))
-    (call .write-path2 .ensures)
-
-returns-3 : tie.Need-returns-3
-returns-3 c =
+returns : tie.Need-returns
+returns c =
     let arm = c .before in
-    let h = head (arm .before .before .before) .pre in
-    lone-parent-none h (arm .before .if1 .left) (arm .if2 .left) (c .if3 .taken)
+    let other = arm .match .rest in
+    lone-parent-none (head (arm .before .before) .pre) (other .0 .1) (other .1) (c .if1 .taken)
 
 sub-emit-one : tie.Need-sub-emit-one
 sub-emit-one c = search needs
@@ -94,9 +75,27 @@ sub-emit-one c = search needs
 emit-one-requires : tie.Need-emit-one-requires
 emit-one-requires c κs =
     let arm = c .before .before in
-    let h = head (arm .before .before .before) .pre in
-    let q = c .before .if3 .left in
-    (omega arith, lone-parent-asks h (arm .before .if1 .left) (arm .if2 .left) _ (omega arith))
+    let other = arm .match .rest in
+    let q = c .before .if1 .left in
+    (omega arith, lone-parent-asks (head (arm .before .before) .pre) (other .0 .1) (other .1) _ (omega arith))
+
+same-length : tie.Need-same-length
+same-length c = search needs
+
+returns-2 : tie.Need-returns-2
+returns-2 c =
+    let call = c .before .before in
+    let arm = call .before .before .before in
+    wrote-as (sym (lone-selves-rows (head (arm .before .before) .pre) (arm .match .keys1))) (call .write-path .ensures)
+
+same-length-2 : tie.Need-same-length-2
+same-length-2 c = search needs
+
+returns-3 : tie.Need-returns-3
+returns-3 c =
+    let call = c .before .before in
+    let arm = call .before .before .before in
+    wrote-as (sym (lone-above-rows (head (arm .before .before) .pre) (arm .match .keys2))) (call .write-path2 .ensures)
 
 same-length-3 : tie.Need-same-length-3
 same-length-3 c = search needs
@@ -105,9 +104,10 @@ returns-4 : tie.Need-returns-4
 returns-4 c =
     let call = c .before .before in
     let arm = call .before .before .before in
-    let h = head (arm .before .before .before) .pre in
-    let q = call .before .before .if3 .left in
-    lone-parent-done h (arm .before .if1 .left) (arm .if2 .left) _ (omega arith) (call .emit-one .ensures)
+    let other = arm .match .rest in
+    let q = call .before .before .if1 .left in
+    lone-parent-done (head (arm .before .before) .pre) (other .0 .1) (other .1) _ (omega arith)
+    (call .emit-one .ensures)
 
 pub lone-rows-spec : {M : Type 1} → statement M
 lone-rows-spec =
@@ -121,15 +121,15 @@ lone-rows-spec =
     shared-slice-read-write-path
     add-write-path-2
     write-path-requires
-    same-length
-    returns
     mul-write-path-2
     shared-slice-read-write-path-2
     write-path-requires-2
-    same-length-2
-    returns-2
-    returns-3
+    returns
     sub-emit-one
     emit-one-requires
+    same-length
+    returns-2
+    same-length-2
+    returns-3
     same-length-3
     returns-4)
