@@ -20,7 +20,7 @@ use Rattle.edit.specs.Leaves.{Leaves}
 use Rattle.edit.specs.AtRow.{Known, deleteAt}
 use Rattle.shift.specs.Moved.{answered}
 use Rattle.shift.specs.Part.{pulled, cleared}
-use Rattle.shift.specs.Reach.{lowered, Lowerable}
+use Rattle.shift.specs.Enclosing.{lowered, Lowerable}
 use Rattle.shift.proofs.MoveLaws.{pulled-cleared}
 use Rattle.edit.proofs.OutcomeLaws.{leaves, own-refused, own-passed, given-is}
 use Rattle.shift.proofs.SizePassLaws.{lowered-is, lowerable}

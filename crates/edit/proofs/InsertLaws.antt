@@ -18,7 +18,7 @@ use Rattle.tree.proofs.EditLaws.{gap-fits}
 use Rattle.edit.specs.Leaves.{Leaves}
 use Rattle.edit.specs.AtRow.{Fitting, insertAt}
 use Rattle.shift.specs.Moved.{answered}
-use Rattle.shift.specs.Reach.{raised, Raisable}
+use Rattle.shift.specs.Enclosing.{raised, Raisable}
 use Rattle.edit.proofs.OutcomeLaws.{leaves, own-passed}
 use Rattle.shift.proofs.SizePassLaws.{raised-is, raisable}
 

@@ -3,7 +3,7 @@ ghost use mathlib.Core.Path.{_≡_};
 ghost use mathlib.Core.Bool.{cond};
 ghost use Prim.Native.Nat.{_+_, _-_, _≤_};
 ghost use lib.Dec.{leb};
-ghost use Rattle.shift.specs.Reach.{raised, lowered, Raisable, Lowerable};
+ghost use Rattle.shift.specs.Enclosing.{raised, lowered, Raisable, Lowerable};
 
 // A size with by more, where it is at least far.
 fn more(size: usize, far: usize, by: usize) -> usize

@@ -2,7 +2,7 @@
 -- Assumes nothing.
 use Prim.Native.Nat.{_-_, _≤_}
 use native.Mathlib.Omega.{arith}
-use Rattle.shift.specs.Reach.{encloses, lowered}
+use Rattle.shift.specs.Enclosing.{encloses, lowered}
 use Rattle.shift.proofs.MoveLaws.{Put, put-start}
 use Rattle.shift.proofs.SizePassLaws.{pass-read, lower-turn, lower-end}
 use borrow.Author.Needs.{needs}
