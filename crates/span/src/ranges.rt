@@ -1,6 +1,6 @@
 // The axes whose rows come out as ranges, ascending: self, descendant, descendant-or-self, following and preceding.
 ghost use mathlib.Core.Path.{_≡_};
-ghost use Prim.Native.Nat.{_-_, _<_, _≤_, min, max};
+ghost use Prim.Native.Nat.{_-_, _<_, _≤_};
 ghost use lib.ListN.{length};
 ghost use Rattle.tree.specs.Table.{at};
 ghost use Rattle.span.specs.Want.{fits};
@@ -9,6 +9,7 @@ ghost use Rattle.span.specs.Range.{EndsIn, firstAfter, Nests, Ended};
 use super::scan::emit;
 use super::scan::emit_one;
 use tree::logic::greater;
+use tree::logic::smaller;
 
 // Axis 1: writes the contexts of one role that fit, each once, to the front of `out`; answers how many.
 pub fn own_rows(
@@ -78,13 +79,6 @@ pub fn rows_below(
     next
 }
 
-// The lesser of two rows.
-fn earlier(a: usize, b: usize) -> usize
-    ensures { λ r. ⌜ r ≡ min a b ⌝ }
-{
-    if a < b { a } else { b }
-}
-
 // The least row that comes after one of the contexts and its descendants, or the count where there is no context.
 fn first_after(size: &[usize], count: usize, rows: &[usize]) -> usize
     requires { ⌜ EndsIn (now size) count (now rows) ⌝ }
@@ -94,7 +88,7 @@ fn first_after(size: &[usize], count: usize, rows: &[usize]) -> usize
     let mut i = 0;
     while i < rows.len() {
         let c = rows[i];
-        first = earlier(first, c + size[c] + 1);
+        first = smaller(first, c + size[c] + 1);
         i += 1;
     }
     first

@@ -38,20 +38,20 @@ mul-c c = search needs
 shared-slice-read-c : tie.Need-shared-slice-read-c Inv-loop μ-loop
 shared-slice-read-c c = search needs
 
-mul-earlier : tie.Need-mul-earlier Inv-loop μ-loop
-mul-earlier c = omega (arith, inside (c .before))
+mul-smaller : tie.Need-mul-smaller Inv-loop μ-loop
+mul-smaller c = omega (arith, inside (c .before))
 
-shared-slice-read-earlier : tie.Need-shared-slice-read-earlier Inv-loop μ-loop
-shared-slice-read-earlier c = omega (arith, inside (c .before .before))
+shared-slice-read-smaller : tie.Need-shared-slice-read-smaller Inv-loop μ-loop
+shared-slice-read-smaller c = omega (arith, inside (c .before .before))
 
-add-earlier : tie.Need-add-earlier Inv-loop μ-loop
-add-earlier c = omega (arith, inside (c .before .before))
+add-smaller : tie.Need-add-smaller Inv-loop μ-loop
+add-smaller c = omega (arith, inside (c .before .before))
 
-add-earlier-2 : tie.Need-add-earlier-2 Inv-loop μ-loop
-add-earlier-2 c = omega (arith, inside (c .before .before))
+add-smaller-2 : tie.Need-add-smaller-2 Inv-loop μ-loop
+add-smaller-2 c = omega (arith, inside (c .before .before))
 
-earlier-requires : tie.Need-earlier-requires Inv-loop μ-loop
-earlier-requires c κs = search needs
+smaller-requires : tie.Need-smaller-requires Inv-loop μ-loop
+smaller-requires c κs = search needs
 
 add-i : tie.Need-add-i Inv-loop μ-loop
 add-i c = search needs
@@ -62,7 +62,7 @@ loop-less c = search needs
 loop-again : tie.Need-loop-again Inv-loop μ-loop
 loop-again c =
     let s = c .before .before .before .before in
-    (omega arith, after-more _ _ _ (s .loop .i) (s .loop .inv .1) (c .earlier .ensures))
+    (omega arith, after-more _ _ _ (s .loop .i) (s .loop .inv .1) (c .smaller .ensures))
 
 returns : tie.Need-returns Inv-loop μ-loop
 returns c =
@@ -79,11 +79,11 @@ first-after-spec =
     loop-holds
     mul-c
     shared-slice-read-c
-    mul-earlier
-    shared-slice-read-earlier
-    add-earlier
-    add-earlier-2
-    earlier-requires
+    mul-smaller
+    shared-slice-read-smaller
+    add-smaller
+    add-smaller-2
+    smaller-requires
     add-i
     loop-less
     loop-again
