@@ -1,25 +1,24 @@
 -- One role on any axis: which axes are ranged (`ranged-last`) and which are marked (`marked-last`, `marked-rest`),
 -- and that siblings follow parents (`siblings-climb`); the rows of a marked set are the role's rows (`marked-rows`,
 -- `marked-drains`); `role-as`, `wrote-axis`, `marked-as`: the same at an equal axis. Assumes nothing.
-use mathlib.Core.Path.{_≡_, refl, sym, ap, ap₂, subst, _∙_}
-use mathlib.Core.Logic.{_⊎_, inl, inr, ⊎-elim}
+use mathlib.Core.Path.{_≡_, sym, ap, subst, _∙_}
+use mathlib.Core.Logic.{_⊎_, ⊎-elim}
 use mathlib.Core.Bool.{Bool, true, false, _&&_, _||_, true≢false}
 use mathlib.Core.List.{List}
 use Prim.Native.Nat.{ℕ, suc, _<_, _≤_}
 use native.Mathlib.Nat.{le-antisymm, eq-or-lt-of-le}
 use native.Mathlib.Omega.{arith}
 use native.Mathlib.Decide.{ℕ-discrete}
-use borrow.Author.Tests.{eqb-true, eqb-false, eq-eqb, ne-eqb, leb-true, ltb-true, lt-ltb}
+use borrow.Author.Tests.{eqb-true, eqb-false, ne-eqb, leb-true, ltb-true, lt-ltb}
 use lib.Dec.{eqb, leb, ltb}
-use lib.ListN.{length}
 use Rattle.tree.specs.Search.{gather}
 use Rattle.tree.specs.Axis.{axisOk}
 use Rattle.tree.proofs.SearchLaws.{gather-ext}
-use Rattle.tree.proofs.SoundLaws.{both, either, either-left, either-right}
+use Rattle.tree.proofs.SoundLaws.{both}
 use Rattle.tree.proofs.AcceptLaws.{neither}
-use Rattle.span.specs.Reach.{anyOn, oneRole, RoleIn, Wrote, Parents}
+use Rattle.span.specs.Reach.{anyOn, oneRole, RoleIn, Wrote}
 use Rattle.span.specs.Want.{fits}
-use Rattle.axis.specs.RowSet.{has, RowSet, Marks, Marked, Drains}
+use Rattle.axis.specs.RowSet.{has, Marked, Drains}
 use Rattle.axis.specs.Role.{rangedAxis, markedAxis, climbsAxis}
 use Rattle.span.proofs.WroteLaws.{wrote-as}
 

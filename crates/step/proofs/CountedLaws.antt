@@ -1,10 +1,9 @@
 -- Counting the lines role by role: `counted-none` at the start, `counted-more` for a run more, `counted-done` at
 -- the end; `run-asks`: what the step of one role asks for at a run. Assumes nothing.
-use mathlib.Core.Path.{_≡_, refl, sym, ap, ap₂, subst, _∙_}
-use mathlib.Core.Logic.{_⊎_}
-use mathlib.Core.Bool.{Bool, true, false, not}
+use mathlib.Core.Path.{_≡_, refl, ap, _∙_}
+use mathlib.Core.Bool.{Bool, true, false}
 use mathlib.Core.List.{List, [], _∷_, _++_}
-use Prim.Native.Nat.{ℕ, zero, suc, _+_, _*_, _<_, _≤_}
+use Prim.Native.Nat.{ℕ, zero, suc, _+_, _*_, _≤_}
 use native.Mathlib.Nat.{le-refl, le-trans}
 use native.Mathlib.Omega.{arith}
 use borrow.Author.Tests.{not-false}
@@ -13,16 +12,16 @@ use Rattle.tree.specs.Search.{gather, only}
 use Rattle.tree.specs.Table.{Table, at}
 use Rattle.tree.specs.Axis.{axisOk}
 use Rattle.tree.specs.Test.{testOk}
-use Rattle.tree.specs.Pairs.{Pair, pairsOf, withRole, distinct}
+use Rattle.tree.specs.Pairs.{pairsOf, withRole, distinct}
 use Rattle.tree.specs.Step.{Ask, stepList, linesOf}
 use Rattle.tree.specs.StepRules.{PairsFit}
-use Rattle.tree.specs.Refusal.{given, next, askCheck}
+use Rattle.tree.specs.Refusal.{askCheck}
 use Rattle.tree.specs.declared.Checked.the-variants.{Passed}
 use Rattle.tree.proofs.SearchLaws.{gather-zero, gather-length}
 use Rattle.tree.proofs.SoundLaws.{sound-shape, next-passed, given-passed}
 use Rattle.tree.proofs.RoleLaws.{pair-passes}
-use Rattle.span.specs.Want.{wantedKind, fits}
-use Rattle.span.specs.Reach.{oneRole, Wrote}
+use Rattle.span.specs.Want.{wantedKind}
+use Rattle.span.specs.Reach.{oneRole}
 use Rattle.axis.specs.RowSet.{Blank}
 use Rattle.axis.specs.Role.{RoleAsk, RoleDone}
 use Rattle.step.specs.Runs.{pairsFrom, part, RunEnd}

@@ -1,17 +1,15 @@
 -- The kept count run by run: `kept-run`; and the loop that adds it up: `keeping-none`, `keeping-more`, `keeping-done`.
 -- Assumes nothing.
-use mathlib.Core.Path.{_≡_, refl, sym, ap, ap₂, _∙_}
-use mathlib.Core.List.{List, []}
-use Prim.Native.Nat.{ℕ, _+_, _-_, _<_, _≤_}
+use mathlib.Core.Path.{_≡_, ap, _∙_}
+use mathlib.Core.List.{List}
+use Prim.Native.Nat.{ℕ, _+_, _-_, _≤_}
 use native.Mathlib.Omega.{arith}
 use lib.ListN.{length, drop, length-take, length-drop, drop-of-length-le}
 use Rattle.tree.specs.Table.{at}
 use Rattle.tree.specs.Rules.{Shape}
-use Rattle.tree.specs.Pairs.{Pair, pairsOf, withRole}
+use Rattle.tree.specs.Pairs.{pairsOf, withRole}
 use Rattle.tree.specs.Kept.{remaining, keptCount}
 use Rattle.tree.specs.StepRules.{PairsFit}
-use Rattle.tree.specs.Refusal.{pairCheck}
-use Rattle.tree.specs.declared.Checked.the-variants.{Passed}
 use Rattle.tree.proofs.KeptLaws.{kept-split}
 use Rattle.step.specs.KeptOf.{keptOf, KeptIn}
 use Rattle.step.specs.Runs.{pairsFrom, part, RunEnd}

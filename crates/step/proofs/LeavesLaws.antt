@@ -2,12 +2,11 @@
 -- `room-fits`), or with its lines written (`leaves-listed`). `step-only`: two ends that the contracts of
 -- `step` and `step_known` allow are the same. `call-known`: what the checks that pass say. Assumes nothing.
 use mathlib.Core.Path.{_≡_, refl, sym, ap, ap₂, _∙_}
-use mathlib.Core.Bool.{Bool}
 use mathlib.Core.List.{List}
 use Prim.Native.Nat.{ℕ}
 use lib.ListN.{length}
 use Rattle.tree.specs.Table.{Table}
-use Rattle.tree.specs.Pairs.{Pair, pairsOf, rolesOf, rowsOf}
+use Rattle.tree.specs.Pairs.{Pair, pairsOf}
 use Rattle.tree.specs.Step.{Ask, stepList}
 use Rattle.tree.specs.Kept.{keptCount}
 use Rattle.tree.specs.Refusal.{next, tableCheck, pairCheck, askCheck, roomCheck}

@@ -9,11 +9,10 @@ use Prim.Native.Nat.{ℕ, zero, suc, _+_, _-_, _<_, _≤_}
 use native.Mathlib.Nat.{le-refl, le-trans, le-of-suc-le-suc, not-suc-le-zero, eq-or-lt-of-le}
 use native.Mathlib.Omega.{arith}
 use native.Mathlib.Decide.{decLt}
-use borrow.Author.Tests.{eq-eqb, ne-eqb, ltb-false, lt-ltb, le-ltb}
+use borrow.Author.Tests.{eq-eqb, ne-eqb, ltb-false}
 use lib.Dec.{eqb, ltb}
-use lib.ListN.{length, take, drop, getD, length-take, length-drop, drop-of-length-le}
+use lib.ListN.{length, take, drop, length-take, length-drop, drop-of-length-le}
 use lib.Seq.{getD-drop, getD-take, drop-drop, drop-cons}
-use Rattle.tree.specs.Search.{gather}
 use Rattle.tree.specs.Table.{Table, at}
 use Rattle.tree.specs.Axis.{onAxis}
 use Rattle.tree.specs.Test.{testOk, passes}
@@ -21,8 +20,7 @@ use Rattle.tree.specs.Pairs.{Pair, pair, pairsOf, withRole, some, distinct, bef
 use Rattle.tree.specs.Step.{Ask, listed, reached, linesOf, stepList}
 use Rattle.tree.specs.StepRules.{PairsFit}
 use Rattle.tree.proofs.SearchLaws.{gather-ext}
-use Rattle.tree.proofs.SoundLaws.{both-of, either-left, either-right}
-use Rattle.tree.proofs.AcceptLaws.{neither}
+use Rattle.tree.proofs.SoundLaws.{both-of, either-right}
 use Rattle.tree.proofs.StepLaws.{In, Ordered}
 use Rattle.tree.proofs.SplitLaws.{RolesBelow, step-split}
 use Rattle.tree.proofs.RoleLaws.{Level, all-above, level-ordered, in-order}

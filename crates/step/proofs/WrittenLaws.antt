@@ -1,10 +1,10 @@
 -- Writing the lines role by role: `written-none` at the start, `written-more` for a run more, `written-done` at the
 -- end; what the step of one role and the filling of its roles ask for: `written-asks`, `written-room`. Assumes nothing.
-use mathlib.Core.Path.{_≡_, refl, sym, ap, ap₂, subst, _∙_}
+use mathlib.Core.Path.{_≡_, refl, sym, ap, _∙_}
 use mathlib.Core.List.{List, [], _∷_, _++_, append-nil, append-assoc}
-use Prim.Native.Nat.{ℕ, suc, _+_, _-_, _*_, _<_, _≤_}
+use Prim.Native.Nat.{ℕ, suc, _+_, _-_, _*_, _≤_}
 use native.Mathlib.Omega.{arith}
-use lib.ListN.{length, replicate, drop, length-append, length-drop, length-take}
+use lib.ListN.{length, replicate, length-append, length-drop, length-take}
 use borrow.Rule.Slice.PartMut.{midOf, putMid}
 use Rattle.tree.specs.Table.{Table, at}
 use Rattle.tree.specs.Pairs.{Pair, pairsOf, withRole, rolesOf, rowsOf}

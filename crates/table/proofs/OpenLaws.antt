@@ -1,11 +1,11 @@
 -- One pass over the levels, with the rows that are still open remembered by level: `followed-root` at its start,
 -- `followed-more` for a row more, `followed-all` at its end. A row is unfinished while every row after it is deeper.
 -- Assumes nothing.
-use mathlib.Core.Path.{_≡_, refl, sym, ap, _∙_}
+use mathlib.Core.Path.{_≡_, ap, _∙_}
 use mathlib.Core.Logic.{_⊎_, inl, inr, ⊎-elim}
-use mathlib.Core.Bool.{Bool, true, false, not, _&&_}
+use mathlib.Core.Bool.{true, false, not, _&&_}
 use mathlib.Core.List.{List}
-use Prim.Native.Nat.{ℕ, zero, suc, _+_, _-_, _<_, _≤_}
+use Prim.Native.Nat.{ℕ, _+_, _-_, _<_, _≤_}
 use native.Mathlib.Nat.{le-refl, zero-add, le-of-suc-le-suc, eq-or-lt-of-le}
 use native.Mathlib.Numerals.{add-one}
 use native.Mathlib.Omega.{arith}
@@ -16,7 +16,7 @@ use lib.ListN.{length, set, length-set}
 use lib.Seq.{getD-set-same, getD-set-other}
 use Rattle.tree.specs.Table.{Table, at}
 use Rattle.tree.specs.Sound.{sizeOf, sizeOk, levelOk, kindOk, nameOk, restOk}
-use Rattle.tree.specs.Rules.{LevelRule, InUse}
+use Rattle.tree.specs.Rules.{InUse}
 use Rattle.tree.proofs.SearchLaws.{least-none, least-at}
 use Rattle.tree.proofs.TreeLaws.{rest, size-least, rest-at}
 use Rattle.tree.proofs.SoundLaws.{both, both-of, level-back}

@@ -1,7 +1,7 @@
 -- The check of pairs whose columns have one length of at most 4,096: order, then rows (`pair-check-is`); without a
 -- wrong place they pass (`pairs-pass`). The order place by place: `order-first`, `order-next`. Assumes nothing.
-use mathlib.Core.Path.{_≡_, refl, sym, ap, ap₂, _∙_}
-use mathlib.Core.Bool.{Bool, true, false, not, _&&_, _||_, and-false}
+use mathlib.Core.Path.{_≡_, ap, _∙_}
+use mathlib.Core.Bool.{Bool, false, not, _&&_, and-false}
 use mathlib.Core.List.{List}
 use Prim.Native.Nat.{ℕ, _+_, _-_, _<_, _≤_}
 use native.Mathlib.Nat.{le-refl}
@@ -14,7 +14,6 @@ use Rattle.tree.specs.Table.{at}
 use Rattle.tree.specs.Search.{least}
 use Rattle.tree.specs.Pairs.{before, outOfOrder}
 use Rattle.tree.specs.Refusal.{given, givenAt, next, pairCheck}
-use Rattle.tree.specs.declared.Checked.{Checked}
 use Rattle.tree.specs.declared.Checked.the-variants.{Passed}
 use Rattle.tree.proofs.SearchLaws.{least-none}
 use Rattle.table.specs.Places.{Ordered, Inside}

@@ -2,7 +2,7 @@
 // fails here is searched row by row for its least unsound row (rows.rt).
 ghost use mathlib.Core.Path.{_≡_};
 ghost use mathlib.Core.Bool.{true};
-ghost use Prim.Native.Nat.{_<_, _≤_};
+ghost use Prim.Native.Nat.{_<_};
 ghost use Rattle.tree.specs.Table.{tableOf};
 ghost use Rattle.tree.specs.Rules.{InUse};
 ghost use Rattle.table.specs.First.{firstRest};

@@ -10,7 +10,7 @@ use borrow.Author.Tests.{eqb-true, eqb-false, eq-eqb, ne-eqb, ltb-true, ltb-fals
 use borrow.Author.Tests.{not-false}
 use lib.Dec.{eqb, ltb}
 use Rattle.tree.specs.Search.{least, someBelow}
-use Rattle.tree.specs.Table.{Table, at, shortest, countOk}
+use Rattle.tree.specs.Table.{Table, at, countOk}
 use Rattle.tree.specs.Sound.{rowOf, hasName, firstBad}
 use Rattle.tree.specs.Rules.{Sound}
 use Rattle.tree.specs.EditRules.{NoKey, InsertFits, RenameFits, EditFits}

@@ -12,7 +12,7 @@ use borrow.Author.Tests.{not-true, not-false}
 use lib.Dec.{eqb, leb}
 use Rattle.tree.specs.Search.{least}
 use Rattle.tree.specs.Table.{Table, at, shortest, countOk}
-use Rattle.tree.specs.Sound.{levelOk, sizeOf, sizeOk, kindOk, hasName, nameOk, rowOf, keyOk, restOk, rowOk}
+use Rattle.tree.specs.Sound.{levelOk, sizeOk, kindOk, hasName, nameOk, rowOf, keyOk, restOk, rowOk}
 use Rattle.tree.specs.Sound.{firstBad}
 use Rattle.tree.specs.Rules.{LevelRule, KindRule, NameRule, KeyRule, SoundRow, Shape, InUse, Sound}
 use Rattle.tree.specs.Tree.{ancestor}

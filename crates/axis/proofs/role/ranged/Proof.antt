@@ -1,5 +1,4 @@
 -- `axis::role::ranged` meets its contract: each arm is the function of its axis. Assumes nothing.
-use mathlib.Core.Path.{sym}
 use native.Mathlib.Omega.{arith}
 use Rattle.axis.proofs.RoleAxisLaws.{role-as, wrote-axis, ranged-last}
 use borrow.Author.Needs.{needs}

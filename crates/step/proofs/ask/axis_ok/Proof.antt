@@ -2,7 +2,6 @@
 use native.Mathlib.Omega.{arith}
 use borrow.Author.Tests.{le-leb, lt-leb}
 use Rattle.tree.specs.Axis.{axisOk}
-use borrow.Author.Needs.{needs}
 use Rattle.step.proofs.ask.axis_ok.Statement.{statement}
 use Rattle.step.proofs.ask.axis_ok.Tie as tie
 

@@ -3,7 +3,6 @@ use mathlib.Core.Path.{sym}
 use mathlib.Core.Logic.{inl, inr, ⊎-elim}
 use native.Mathlib.Omega.{arith}
 use Rattle.tree.proofs.AskLaws.{test-named, test-plain, test-above}
-use borrow.Author.Needs.{needs}
 use Rattle.step.proofs.ask.test_ok.Statement.{statement}
 use Rattle.step.proofs.ask.test_ok.Tie as tie
 

@@ -1,6 +1,5 @@
 -- `step::roles::count_all` meets its contract. The lines of the roles before place i are counted. Assumes nothing.
 use Prim.Native.Nat.{ℕ, _-_}
-use mathlib.Core.Path.{sym}
 use native.Mathlib.Omega.{arith}
 use lib.ListN.{length, replicate, length-replicate}
 use Rattle.tree.specs.Table.{tableOf}

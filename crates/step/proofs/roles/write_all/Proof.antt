@@ -1,7 +1,6 @@
 -- `step::roles::write_all` meets its contract. The lines of the roles before place i stand in the result columns, and
 -- their kept pairs are counted. Assumes nothing.
 use Prim.Native.Nat.{ℕ, _-_}
-use mathlib.Core.Path.{sym}
 use native.Mathlib.Omega.{arith}
 use lib.ListN.{length, replicate}
 use Rattle.tree.specs.Table.{tableOf}

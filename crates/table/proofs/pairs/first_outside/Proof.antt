@@ -1,6 +1,6 @@
 -- `table::pairs::first_outside` meets its contract: every row below place i is below the count. Assumes nothing.
 use Prim.Native.Nat.{ℕ, _≤_, _<_, _-_}
-use mathlib.Core.Path.{_≡_, sym, ap, _∙_}
+use mathlib.Core.Path.{_≡_, sym, ap}
 use mathlib.Core.Bool.{false, not}
 use lib.Dec.{ltb}
 use lib.ListN.{length}

@@ -1,6 +1,5 @@
 -- `table::rows::first_bad` meets its contract: the least row that fails one of two tests is the smaller of the two
 -- leasts. Assumes nothing.
-use mathlib.Core.Path.{sym, _∙_}
 use Rattle.tree.proofs.SearchLaws.{least-both}
 use Rattle.table.specs.First.{firstRest}
 use Rattle.keys.specs.First.{firstKey}

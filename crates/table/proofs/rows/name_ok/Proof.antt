@@ -1,8 +1,6 @@
 -- `table::rows::name_ok` meets its contract, kind by kind. Assumes nothing.
-use borrow.Author.Tests.{ne-eqb, eq-eqb, le-leb, lt-leb}
-use native.Mathlib.Omega.{arith}
+use borrow.Author.Tests.{ne-eqb, eq-eqb}
 use Rattle.tree.specs.Sound.{nameOk, hasName}
-use borrow.Author.Needs.{needs}
 use Rattle.table.proofs.rows.name_ok.Statement.{statement}
 use Rattle.table.proofs.rows.name_ok.Tie as tie
 

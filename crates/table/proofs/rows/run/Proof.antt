@@ -1,13 +1,11 @@
 -- `table::rows::run` meets its contract. The invariant: every level below place k is above top. Assumes nothing.
 use Prim.Native.Nat.{ℕ, _≤_, _<_, _-_}
-use mathlib.Core.Path.{_≡_, sym, ap, _∙_}
+use mathlib.Core.Path.{_≡_, sym}
 use mathlib.Core.Bool.{false}
-use native.Mathlib.Omega.{arith}
-use native.Mathlib.Nat.{le-antisymm}
-use lib.Dec.{leb, eqb}
+use lib.Dec.{leb}
 use lib.ListN.{length, getD}
 use borrow.Author.Count.{below-more, below-none}
-use borrow.Author.Tests.{ne-eqb, eq-eqb, le-leb, lt-leb}
+use borrow.Author.Tests.{le-leb, lt-leb}
 use Rattle.tree.proofs.SearchLaws.{least-at, least-end}
 use Rattle.tree.specs.Sound.{runOf}
 use borrow.Author.Needs.{needs}

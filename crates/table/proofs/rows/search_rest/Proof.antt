@@ -4,12 +4,7 @@ use mathlib.Core.Bool.{not}
 use Prim.Native.Nat.{ℕ, _≤_, _<_, _-_}
 use mathlib.Core.Path.{_≡_, sym, ap, _∙_}
 use mathlib.Core.Bool.{false}
-use native.Mathlib.Omega.{arith}
-use native.Mathlib.Nat.{le-antisymm}
-use lib.Dec.{leb, eqb}
-use lib.ListN.{length, getD}
 use borrow.Author.Count.{below-more, below-none}
-use borrow.Author.Tests.{ne-eqb, eq-eqb, le-leb, lt-leb}
 use Rattle.tree.proofs.SearchLaws.{least-at, least-end}
 use Rattle.tree.specs.Table.{tableOf}
 use Rattle.table.specs.First.{firstRest}

@@ -1,7 +1,5 @@
 -- `table::rows::size_ok` meets its contract: the run of the rows after i is the size that its levels give.
 -- Assumes nothing.
-use borrow.Author.Tests.{ne-eqb, eq-eqb, le-leb, lt-leb}
-use native.Mathlib.Omega.{arith}
 use Rattle.tree.specs.Sound.{sizeOk, sizeOf}
 use borrow.Author.Needs.{needs}
 use Rattle.table.proofs.rows.size_ok.Statement.{statement}
