@@ -76,13 +76,7 @@ pub(crate) fn of_edit(edited: Edited) -> Answer
     ensures { λ r. ⌜ r ≡ editAnswer edited ⌝ }
 {
     match edited {
-        Edited::Made(done) => Answer {
-            refusal: 0,
-            place: 0,
-            first: done.count,
-            second: done.first,
-            moved: done.moved,
-        },
+        Edited::Made(done) => accept(done.count, done.first, done.moved),
         Edited::Refused(number, place) => refuse(number, place),
     }
 }
