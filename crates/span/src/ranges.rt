@@ -85,11 +85,11 @@ fn first_after(size: &[usize], count: usize, rows: &[usize]) -> usize
     ensures { λ r. ⌜ r ≡ firstAfter (now (size .entry)) count (now (rows .entry)) (length (now (rows .entry))) ⌝ }
 {
     let mut first = count;
-    let mut i = 0;
-    while i < rows.len() {
-        let c = rows[i];
+    let mut k = 0;
+    while k < rows.len() {
+        let c = rows[k];
         first = smaller(first, c + size[c] + 1);
-        i += 1;
+        k += 1;
     }
     first
 }

@@ -1,4 +1,4 @@
--- `span::ranges::first_after` meets its contract. The invariant: first is the least row after one of the first i
+-- `span::ranges::first_after` meets its contract. The invariant: first is the least row after one of the first k
 -- contexts. Assumes nothing.
 use mathlib.Core.Path.{_≡_, ap, _∙_}
 use Prim.Native.Nat.{_+_, _-_, _<_, _≤_}
@@ -13,21 +13,21 @@ use Rattle.span.proofs.ranges.first_after.Statement.{statement}
 use Rattle.span.proofs.ranges.first_after.Tie as tie
 
 abbrev Inv-loop : tie.InvT-loop
-Inv-loop size count rows first₀ i₀ first i = (i ≤ length rows) × (first ≡ firstAfter size count rows i)
+Inv-loop size count rows first₀ k₀ first k = (k ≤ length rows) × (first ≡ firstAfter size count rows k)
 
 abbrev μ-loop : tie.MeasureT-loop
-μ-loop size count rows first₀ i₀ first i = length rows - i
+μ-loop size count rows first₀ k₀ first k = length rows - k
 
 abbrev head : tie.At-loop Inv-loop μ-loop → tie.Start Inv-loop μ-loop
 head s = s .before .before .before
 
 -- the context's descendants are rows in use, of which there are few
 inside : (c : tie.In-loop Inv-loop μ-loop) → (let a = head (c .before) .args in
-    let w = at (a .rows .now) (c .before .loop .i) in
+    let w = at (a .rows .now) (c .before .loop .k) in
     (w + at (a .size .now) w < a .count) × (a .count ≤ 4096) × (a .count ≤ length (a .size .now)))
 inside c =
     let p = head (c .before) .pre in
-    (p .inside (c .before .loop .i) (c .loop-test .taken), p .few, p .in-size)
+    (p .inside (c .before .loop .k) (c .loop-test .taken), p .few, p .in-size)
 
 loop-holds : tie.Need-loop-holds Inv-loop μ-loop
 loop-holds c = (omega arith, after-none _ _ _)
@@ -53,21 +53,21 @@ add-smaller-2 c = omega (arith, inside (c .before .before))
 smaller-requires : tie.Need-smaller-requires Inv-loop μ-loop
 smaller-requires c κs = search needs
 
-add-i : tie.Need-add-i Inv-loop μ-loop
-add-i c = search needs
+add-k : tie.Need-add-k Inv-loop μ-loop
+add-k c = search needs
 
 loop-less : tie.Need-loop-less Inv-loop μ-loop
-loop-less c = search needs
+loop-less c = omega (arith, inside (c .before .before .before))
 
 loop-again : tie.Need-loop-again Inv-loop μ-loop
 loop-again c =
     let s = c .before .before .before .before in
-    (omega arith, after-more _ _ _ (s .loop .i) (s .loop .inv .1) (c .smaller .ensures))
+    (omega arith, after-more _ _ _ (s .loop .k) (s .loop .inv .1) (c .smaller .ensures))
 
 returns : tie.Need-returns Inv-loop μ-loop
 returns c =
     let s = c .before in
-    let e : s .loop .i ≡ length (head s .args .rows .now) = le-antisymm (s .loop .inv .0) (c .loop-test .left) in
+    let e : s .loop .k ≡ length (head s .args .rows .now) = le-antisymm (s .loop .inv .0) (c .loop-test .left) in
     s .loop .inv .1 ∙ ap (firstAfter _ _ _) e
 
 pub first-after-spec : {M : Type 1} → statement M
@@ -84,7 +84,7 @@ first-after-spec =
     add-smaller
     add-smaller-2
     smaller-requires
-    add-i
+    add-k
     loop-less
     loop-again
     returns)
