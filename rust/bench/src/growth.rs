@@ -17,7 +17,7 @@ pub fn run(race: &Race) {
 /// Half the roles of the desk, a quarter, an eighth: the pairs and the results shrink alike.
 fn more_pairs(race: &Race) {
     let table = plant(ROWS);
-    let mut group = Group::new("growth with pairs and results, microseconds a call");
+    let mut group = Group::new("growth of a step, microseconds a call");
     for axis in [2, 6, 8, 10] {
         for pairs in [500, 1_000, 2_000, 4_000] {
             let mut step = Step::new(desk_pairs(0..ROWS)[..pairs].to_vec());
