@@ -123,6 +123,19 @@ impl Case {
         }
     }
 
+    /// Every lent column, in the order of `lent`.
+    pub fn lent_mut(&mut self) -> Vec<&mut Vec<usize>> {
+        let mut lent: Vec<_> = self.table.each_mut().into();
+        match &mut self.call {
+            Call::Step(step) => {
+                lent.extend([&mut step.role, &mut step.row, &mut step.out_role, &mut step.out_row])
+            }
+            Call::Insert(insert) => lent.extend(insert.piece.each_mut()),
+            Call::Check | Call::Find { .. } | Call::Delete { .. } | Call::Rename { .. } => {}
+        }
+        lent
+    }
+
     /// Every lent column with its name.
     pub fn lent(&self) -> Vec<(String, &[usize])> {
         let mut lent = named("", &self.table);

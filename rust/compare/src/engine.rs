@@ -102,7 +102,9 @@ engine!(
     second
 );
 
+mod piped;
 #[cfg(feature = "library")]
 mod verified;
+pub use piped::Piped;
 #[cfg(feature = "library")]
 pub use verified::Library;

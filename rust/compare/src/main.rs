@@ -52,6 +52,9 @@ fn main() -> ExitCode {
 }
 
 fn engine_named(name: &str) -> Result<Box<dyn Engine>, String> {
+    if let Some(command) = name.strip_prefix("piped:") {
+        return Ok(Box::new(engine::Piped::start(command)?));
+    }
     match name {
         #[cfg(feature = "library")]
         "library" => Ok(Box::new(engine::Library)),

@@ -22,7 +22,7 @@ pub struct Options {
     pub only: Option<Part>,
 }
 
-const USAGE: &str = "usage: compare [--engine library|plain] [--seed N] [--calls N] \
+const USAGE: &str = "usage: compare [--engine library|plain|piped:COMMAND] [--seed N] [--calls N] \
                      [--only check|find|step|edit|commute]";
 
 impl Options {
