@@ -65,3 +65,8 @@ wrote-appended {xs} {ys} {d} {out} {new} {m} h a =
           ∙ ap (λ (c : List ℕ). xs ++ (ys ++ c)) (drop-drop (length ys) (length xs) d ∙ ap (λ (k : ℕ). drop k d) l)
           ∙ sym (append-assoc xs ys (drop (length (xs ++ ys)) d));
     }
+
+-- two answers that a contract of this kind allows are equal, and so are the columns
+pub appended-only : {xs old : List ℕ} {place r s : ℕ} {a b : List ℕ} → Appended xs old place r a
+    → Appended xs old place s b → (r ≡ s) × (a ≡ b)
+appended-only p q = (p .many ∙ sym (q .many), p .holds ∙ sym (q .holds))

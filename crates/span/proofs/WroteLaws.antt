@@ -1,6 +1,6 @@
 -- Laws of a column that begins with what was written to it (`Wrote`): nothing yet (`wrote-none`), one row more
--- (`wrote-more`), and what a part lent from there on begins with (`wrote-part`); it keeps its length (`wrote-length`).
--- Assumes nothing.
+-- (`wrote-more`), and what a part lent from there on begins with (`wrote-part`); it keeps its length (`wrote-length`);
+-- two answers are equal (`wrote-only`). Assumes nothing.
 use mathlib.Core.Path.{_≡_, refl, sym, ap, ap₂, subst, _∙_}
 use mathlib.Core.List.{List, [], _∷_, _++_, append-assoc}
 use Prim.Native.Nat.{ℕ, suc, _+_, _-_, _<_, _≤_}
@@ -74,3 +74,7 @@ module _ {xs old : List ℕ} {r : ℕ} {new : List ℕ} (s : Wrote xs old r new)
         ∙ ap₂ (λ (n : List ℕ) (i : ℕ). take i n ++ overwritten ys (drop i n)) (s .holds) (s .many)
         ∙ overwritten-twice xs ys old;
   }
+
+-- two answers that a contract of this kind allows are equal, and so are the columns
+pub wrote-only : {xs old : List ℕ} {r s : ℕ} {a b : List ℕ} → Wrote xs old r a → Wrote xs old s b → (r ≡ s) × (a ≡ b)
+wrote-only p q = (p .many ∙ sym (q .many), p .holds ∙ sym (q .holds))
