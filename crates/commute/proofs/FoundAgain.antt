@@ -38,7 +38,7 @@ edited-sound a t h = subst Sound (sym (accepted-table a t h)) (after-sound a t (
 
 -- ── signed numbers ──
 -- less n, where there are n
-plus-minus : (m n : ℕ) → n ≤ m → pos m +ℤ minus n ≡ pos (m - n)
+pub plus-minus : (m n : ℕ) → n ≤ m → pos m +ℤ minus n ≡ pos (m - n)
 unfolding minus
 plus-minus m zero l = ap pos (let z : m + 0 ≡ m - 0 = omega arith in z)
 plus-minus m (suc n) l = rw (le-ltb m (suc n) l)
@@ -115,7 +115,7 @@ module _ (t : Table) (k : ℕ) (p : Table) (f : Fits (insertion k p) t) (i : ℕ
 module _ (t : Table) (k : ℕ) (f : Fits (deletion k) t) (i : ℕ) (l : i < t .count)
     (g : goes (deletion k) t i ≡ false) where
   -- a row that stays comes before the deleted row, or after its descendants
-  after-gap : (i < rowNamed (deletion k) t → ⊥) → gapOf t (rowNamed (deletion k) t) ≤ i
+  pub after-gap : (i < rowNamed (deletion k) t → ⊥) → gapOf t (rowNamed (deletion k) t) ≤ i
   unfolding gapOf
   after-gap h =
       let r : ℕ = rowNamed (deletion k) t in

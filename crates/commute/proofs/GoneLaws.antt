@@ -37,7 +37,7 @@ not-found t s x h = rw (table-passes t .1 s, no-key t x .1 h)
 module _ (t : Table) (k : ℕ) (f : Fits (deletion k) t) (i : ℕ) (l : i < t .count)
     (g : goes (deletion k) t i ≡ true) where
   -- a row that goes is the named one, or one of the next size rows
-  in-gap : (rowNamed (deletion k) t ≤ i) × (i < gapOf t (rowNamed (deletion k) t))
+  pub in-gap : (rowNamed (deletion k) t ≤ i) × (i < gapOf t (rowNamed (deletion k) t))
   unfolding gapOf
   in-gap =
       let r : ℕ = rowNamed (deletion k) t in
@@ -72,7 +72,7 @@ module _ (t : Table) (k : ℕ) (f : Fits (deletion k) t) (i : ℕ) (l : i < t .c
       ]
 
 -- the same of any edit: only a deletion has rows that go
-after-gone : (a : Act) (t : Table) → Fits a t → (i : ℕ) → i < t .count → goes a t i ≡ true
+pub after-gone : (a : Act) (t : Table) → Fits a t → (i : ℕ) → i < t .count → goes a t i ≡ true
     → NoKey (tableAfter a t) (at (t .key) i)
 after-gone (insertion k p) t f i l g = absurd (false≢true g)
 after-gone (deletion k) t f i l g = key-gone t k f i l g

@@ -16,16 +16,11 @@ use Rattle.tree.specs.declared.Checked.the-variants.{Passed, Refused}
 use Rattle.tree.specs.declared.Stepped.{Stepped}
 use Rattle.tree.specs.declared.Stepped.the-variants.{Listed, Refused as NotListed}
 use Rattle.tree.proofs.SoundLaws.{next-passed, table-passes}
+use Rattle.tree.proofs.AcceptLaws.{next-next}
 use Rattle.tree.proofs.StepAccept.{room-passes}
+use Rattle.tree.proofs.PairColumns.{length-rows}
 use Rattle.step.specs.Steps.{Fits, Lists}
 use Rattle.step.specs.Leaves.{Leaves, Known}
-use Rattle.step.proofs.WrittenLaws.{length-rows}
-
-next-next : (x y z w : Checked) → next x (next y (next z w)) ≡ next (next x (next y z)) w
-unfolding next
-next-next (Refused m p) y z w = refl
-next-next Passed (Refused m p) z w = refl
-next-next Passed Passed z w = refl
 
 -- refusals 1 to 7
 abbrev pub callChecks : Table → Ask → List ℕ → List ℕ → Checked

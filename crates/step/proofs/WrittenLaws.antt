@@ -9,6 +9,7 @@ use borrow.Rule.Slice.PartMut.{midOf, putMid}
 use Rattle.tree.specs.Table.{Table, at}
 use Rattle.tree.specs.Pairs.{Pair, pairsOf, withRole, rolesOf, rowsOf}
 use Rattle.tree.specs.Step.{Ask, stepList}
+use Rattle.tree.proofs.PairColumns.{length-roles, length-rows, roles-append, rows-append}
 use Rattle.span.specs.Want.{wantedKind}
 use Rattle.span.specs.Reach.{Wrote}
 use Rattle.axis.specs.RowSet.{Blank}
@@ -19,17 +20,7 @@ use Rattle.span.proofs.WroteLaws.{wrote-as, wrote-none, wrote-length, wrote-par
 use Rattle.step.proofs.RunLaws.{roleRows}
 use Rattle.step.proofs.CountedLaws.{length-role, step-at, step-end, row-most, run-asks}
 
--- ── the two columns of a list of pairs ──
-pub rows-append : (xs ys : List Pair) → rowsOf (xs ++ ys) ≡ rowsOf xs ++ rowsOf ys
-unfolding rowsOf
-rows-append [] ys = refl
-rows-append (x ∷ xs) ys = ap (λ (l : List ℕ). x .row ∷ l) (rows-append xs ys)
-
-pub roles-append : (xs ys : List Pair) → rolesOf (xs ++ ys) ≡ rolesOf xs ++ rolesOf ys
-unfolding rolesOf
-roles-append [] ys = refl
-roles-append (x ∷ xs) ys = ap (λ (l : List ℕ). x .role ∷ l) (roles-append xs ys)
-
+-- ── the two columns of one role's pairs ──
 pub rows-role : (r : ℕ) (cs : List ℕ) → rowsOf (withRole r cs) ≡ cs
 unfolding rowsOf withRole
 rows-role r [] = refl
@@ -39,16 +30,6 @@ pub roles-role : (r : ℕ) (cs : List ℕ) → rolesOf (withRole r cs) ≡ repli
 unfolding rolesOf withRole
 roles-role r [] = refl
 roles-role r (c ∷ cs) = ap (λ (l : List ℕ). r ∷ l) (roles-role r cs)
-
-pub length-rows : (ps : List Pair) → length (rowsOf ps) ≡ length ps
-unfolding rowsOf
-length-rows [] = refl
-length-rows (p ∷ ps) = ap suc (length-rows ps)
-
-pub length-roles : (ps : List Pair) → length (rolesOf ps) ≡ length ps
-unfolding rolesOf
-length-roles [] = refl
-length-roles (p ∷ ps) = ap suc (length-roles ps)
 
 -- ── the lines before place i stand in the result columns ──
 pub record Written (t : Table) (a : Ask) (role row oldRole oldRow words outRole outRow : List ℕ) (m i : ℕ)

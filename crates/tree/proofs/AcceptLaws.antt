@@ -1,6 +1,6 @@
 -- When an edit is accepted, in plain words: `insert-passes`, `delete-passes`, `rename-passes`, `edit-passes`.
 -- Tests that fail, `neither`, `neither-of`; a search that finds nothing, `none-below`; a key that is not found,
--- `no-key`; a piece that may be inserted, `piece-ok`. Assumes nothing.
+-- `no-key`; a piece that may be inserted, `piece-ok`; the last check of a chain, `next-next`. Assumes nothing.
 use mathlib.Core.Path.{_≡_, refl, ap, _∙_}
 use mathlib.Core.Logic.{_⊎_, inl, inr, ⊎-elim, _↔_}
 use mathlib.Core.Bool.{Bool, true, false, not, _||_, true≢false}
@@ -14,13 +14,22 @@ use Rattle.tree.specs.Table.{Table, at, countOk}
 use Rattle.tree.specs.Sound.{rowOf, hasName, firstBad}
 use Rattle.tree.specs.Rules.{Sound}
 use Rattle.tree.specs.EditRules.{NoKey, InsertFits, RenameFits, EditFits}
-use Rattle.tree.specs.Refusal.{givenAt, tableCheck, keyCheck, badPiece, insertCheck, deleteCheck, renameCheck}
+use Rattle.tree.specs.Refusal.{givenAt, next, tableCheck, keyCheck, badPiece, insertCheck, deleteCheck}
+use Rattle.tree.specs.Refusal.{renameCheck}
 use Rattle.tree.specs.Outcome.{editCheck}
 use Rattle.tree.specs.declared.Checked.{Checked}
-use Rattle.tree.specs.declared.Checked.the-variants.{Passed}
+use Rattle.tree.specs.declared.Checked.the-variants.{Passed, Refused}
 use Rattle.tree.proofs.SearchLaws.{least-below, least-none}
 use Rattle.tree.proofs.SoundLaws.{table-passes, next-passed, given-passed, given-not, either, either-left}
 use Rattle.tree.proofs.SoundLaws.{either-right}
+
+-- ── a chain of checks ──
+-- the last of four, behind the first three as one
+pub next-next : (x y z w : Checked) → next x (next y (next z w)) ≡ next (next x (next y z)) w
+unfolding next
+next-next (Refused m p) y z w = refl
+next-next Passed (Refused m p) z w = refl
+next-next Passed Passed z w = refl
 
 -- ── tests that fail ──
 -- where a test of the one or the other fails, both fail

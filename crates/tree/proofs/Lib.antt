@@ -8,6 +8,11 @@ pub mod AscendLaws
 pub mod RoleLaws
 pub mod AskLaws
 pub mod StepAccept
+pub mod MoveLaws
+pub mod CarryLaws
+pub mod PairColumns
+pub mod SortedLaws
+pub mod CarryAccept
 pub mod RowsInUse
 pub mod SplitLaws
 pub mod LowestLaws
@@ -27,3 +32,4 @@ pub mod EditSizes
 pub mod EditSound
 pub mod FarmCalls
 pub mod Farm
+pub mod FarmCarry

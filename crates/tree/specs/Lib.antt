@@ -13,3 +13,5 @@ pub mod Edit
 pub mod EditRules
 pub mod Refusal
 pub mod Outcome
+pub mod Carry
+pub mod CarryRules
