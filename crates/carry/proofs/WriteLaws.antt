@@ -1,0 +1,203 @@
+-- Writing the pairs that stay (`Writing`): nothing yet, `writing-none`; while some are left there is a pair to read,
+-- `writing-reads`; one pair more, `writing-more`; and all of them, `writing-done`. Assumes nothing.
+use mathlib.Core.Path.{_≡_, refl, sym, ap, ap₂, subst, _∙_}
+use mathlib.Core.Bool.{Bool, true, false, cond}
+use mathlib.Core.List.{List, [], _∷_, _++_, append-nil}
+use Prim.Native.Nat.{ℕ, suc, _+_, _<_, _≤_}
+use native.Mathlib.Decide.{decLt}
+use native.Mathlib.Numerals.{add-one}
+use native.Mathlib.Omega.{arith}
+use lib.IntN.{ℤ, pos}
+use lib.ListN.{length, getD, take, drop, set, length-append, length-set, take-append-drop}
+use lib.ListN.{drop-of-length-le}
+use lib.Seq.{take-suc, take-suc-set, take-set-le, drop-set-lt}
+use Rattle.tree.specs.Table.{at}
+use Rattle.tree.specs.Pairs.{Pair, pair, pairsOf, rolesOf, rowsOf}
+use Rattle.tree.specs.Outcome.{overwritten}
+use Rattle.tree.specs.Carry.{rowAfter, carriedBy, carried}
+use Rattle.tree.specs.CarryRules.{newRow, goneRow}
+use Rattle.tree.proofs.CarryLaws.{carried-gone, carried-stays, carried-append}
+use Rattle.tree.proofs.PairColumns.{length-roles, length-rows, roles-append, rows-append, length-pairs, pairs-at}
+use Rattle.carry.specs.Left.{leftOf, Ready, Carries}
+use Rattle.carry.proofs.LeftLaws.{left-carried, row-to, carried-to}
+
+-- the carried pairs of the first i places
+abbrev doneOf : List ℕ → List ℕ → ℕ → ℕ → ℕ → List Pair
+doneOf role row to first i = carriedBy (goneRow to first) (newRow to first) (take i (pairsOf role row))
+
+-- a result column that begins with xs, n in number, and is as it was behind the first `left` places
+pub record Begins (xs old : List ℕ) (left n : ℕ) (new : List ℕ) : Type 0 where
+  pub front : take n new ≡ xs
+  pub behind : drop left new ≡ drop left old
+  pub long : length new ≡ length old
+
+-- the pairs of the first i places that stay, n in number, stand in front of both result columns
+pub record Writing (role row : List ℕ) (to first left : ℕ) (oldRole oldRow outRole outRow : List ℕ) (n i : ℕ)
+    : Type 0 where
+  pub within : i ≤ length role
+  pub many : n ≡ length (doneOf role row to first i)
+  pub roles : Begins (rolesOf (doneOf role row to first i)) oldRole left n outRole
+  pub rows : Begins (rowsOf (doneOf role row to first i)) oldRow left n outRow
+
+-- ── a column ──
+-- written at the place n, which counts only where it is kept
+begins-more : {xs old new : List ℕ} {left n : ℕ} (b : Bool) (v : ℕ) → Begins xs old left n new → n < left
+    → left ≤ length old → Begins (cond b xs (xs ++ (v ∷ []))) old left (n + cond b 0 1) (set new n v)
+begins-more {xs} {old} {new} {left} {n} b v h l m = record {
+  front = front b;
+  behind = drop-set-lt left new n v l ∙ h .behind;
+  long = length-set new n v ∙ h .long;
+}
+  where
+    front : (b : Bool) → take (n + cond b 0 1) (set new n v) ≡ cond b xs (xs ++ (v ∷ []))
+    front true =
+        let z : n + 0 ≡ n = omega arith in
+        ap (λ (k : ℕ). take k (set new n v)) z ∙ take-set-le n new n v (omega arith) ∙ h .front
+    front false =
+        ap (λ (k : ℕ). take k (set new n v)) (add-one n)
+        ∙ take-suc-set new n v (omega (arith, h .long))
+        ∙ ap (λ (ys : List ℕ). ys ++ (v ∷ [])) (h .front)
+
+-- all places written
+begins-all : {xs old new : List ℕ} {left : ℕ} → length xs ≡ left → Begins xs old left left new
+    → new ≡ overwritten xs old
+unfolding overwritten
+begins-all {xs} {old} {new} {left} e h =
+    sym (take-append-drop left new) ∙ ap₂ (λ (a b : List ℕ). a ++ b) (h .front) (h .behind)
+    ∙ ap (λ (k : ℕ). xs ++ drop k old) (sym e)
+
+-- ── the two columns of a list that gets one pair more, or none ──
+roles-one : (b : Bool) (ps : List Pair) (p : Pair)
+    → cond b (rolesOf ps) (rolesOf ps ++ (p .role ∷ [])) ≡ rolesOf (cond b ps (ps ++ (p ∷ [])))
+unfolding rolesOf
+roles-one true ps p = refl
+roles-one false ps p = sym (roles-append ps (p ∷ []))
+
+rows-one : (b : Bool) (ps : List Pair) (p : Pair)
+    → cond b (rowsOf ps) (rowsOf ps ++ (p .row ∷ [])) ≡ rowsOf (cond b ps (ps ++ (p ∷ [])))
+unfolding rowsOf
+rows-one true ps p = refl
+rows-one false ps p = sym (rows-append ps (p ∷ []))
+
+length-one : (b : Bool) (ps : List Pair) (p : Pair) → length ps + cond b 0 1 ≡ length (cond b ps (ps ++ (p ∷ [])))
+length-one true ps p = omega arith
+length-one false ps p = sym (length-append ps (p ∷ []))
+
+no-pairs : (ps : List Pair) → length ps ≡ 0 → ps ≡ []
+no-pairs [] e = refl
+no-pairs (p ∷ ps) e = absurd (omega arith)
+
+-- ── all pairs ──
+module _ (role row : List ℕ) (old first : ℕ) (moved : ℤ) (to left : ℕ) (oldRole oldRow : List ℕ)
+    (s : Ready role row old first moved to left oldRole oldRow) where
+  -- the whole list
+  abbrev all : List Pair
+  all = carriedBy (goneRow to first) (newRow to first) (pairsOf role row)
+
+  all-left : length all ≡ left
+  all-left = left-carried to first role row (s .pairs .even) ∙ sym (s .many)
+
+  -- nothing yet
+  pub writing-none : Writing role row to first left oldRole oldRow oldRole oldRow 0 0
+  unfolding carriedBy rolesOf rowsOf
+  writing-none = record {
+    within = omega arith;
+    many = refl;
+    roles = record { front = refl; behind = refl; long = refl };
+    rows = record { front = refl; behind = refl; long = refl };
+  }
+
+  module _ {outRole outRow : List ℕ} {n i : ℕ} (w : Writing role row to first left oldRole oldRow outRole outRow n i)
+    where
+      -- what is done and what is to come
+      abbrev rest : List Pair
+      rest = carriedBy (goneRow to first) (newRow to first) (drop i (pairsOf role row))
+
+      split : all ≡ doneOf role row to first i ++ rest
+      split =
+          ap (carriedBy (goneRow to first) (newRow to first)) (sym (take-append-drop i (pairsOf role row)))
+          ∙ carried-append (goneRow to first) (newRow to first) (take i (pairsOf role row)) (drop i (pairsOf role row))
+
+      lengths : length (doneOf role row to first i) + length rest ≡ left
+      lengths = sym (length-append (doneOf role row to first i) rest) ∙ ap length (sym split) ∙ all-left
+
+      -- while some are left there is a pair to read
+      pub writing-reads : n < left → i < length role
+      unfolding carriedBy
+      writing-reads l = elim (decLt i (length role)) [
+        | yes h ↦ h
+        | no h ↦
+            let z : rest ≡ [] =
+            ap (carriedBy (goneRow to first) (newRow to first))
+            (drop-of-length-le (pairsOf role row) {i = i} (omega (arith, length-pairs role row (s .pairs .even)))) in
+            absurd (omega (arith, w .many, lengths, ap length z))
+      ]
+
+      -- and places to write it
+      pub writing-room : n < left → (n < length outRole) × (n < length outRow)
+      writing-room l = (omega (arith, s .roles, w .roles .long), omega (arith, s .rows, w .rows .long))
+
+      -- one place more
+      next-done : i < length role → doneOf role row to first (i + 1)
+          ≡ cond (goneRow to first (at row i)) (doneOf role row to first i)
+          (doneOf role row to first i ++ (pair (at role i) (newRow to first (at row i)) ∷ []))
+      unfolding carriedBy
+      next-done l =
+          ap (λ (k : ℕ). doneOf role row to first k) (add-one i)
+          ∙ ap (carriedBy (goneRow to first) (newRow to first)) (take-suc (pairsOf role row) i (pair 0 0)
+          (omega (arith, length-pairs role row (s .pairs .even))))
+          ∙ carried-append (goneRow to first) (newRow to first) (take i (pairsOf role row)) _
+          ∙ ap (λ (p : Pair). doneOf role row to first i
+          ++ carriedBy (goneRow to first) (newRow to first) (p ∷ []))
+          (pairs-at role row i l (omega (arith, s .pairs .even)))
+          ∙ one (goneRow to first (at row i)) refl
+        where
+          one : (b : Bool) → goneRow to first (at row i) ≡ b
+              → doneOf role row to first i
+              ++ carriedBy (goneRow to first) (newRow to first) (pair (at role i) (at row i) ∷ [])
+              ≡ cond b (doneOf role row to first i)
+              (doneOf role row to first i ++ (pair (at role i) (newRow to first (at row i)) ∷ []))
+          one true e =
+              ap (λ (ps : List Pair). doneOf role row to first i ++ ps)
+              (carried-gone (goneRow to first) (newRow to first) (pair (at role i) (at row i)) [] e)
+              ∙ append-nil (doneOf role row to first i)
+          one false e = ap (λ (ps : List Pair). doneOf role row to first i ++ ps)
+              (carried-stays (goneRow to first) (newRow to first) (pair (at role i) (at row i)) [] e)
+
+      -- the pair at place i written to place n, which counts only where the pair stays
+      pub writing-more : (v : ℕ) → pos v ≡ rowAfter first moved (at row i) → n < left
+          → Writing role row to first left oldRole oldRow (set outRole n (at role i)) (set outRow n v)
+          (n + cond (goneRow to first (at row i)) 0 1) (i + 1)
+      writing-more v e l =
+          let done : List Pair = doneOf role row to first i in
+          let b : Bool = goneRow to first (at row i) in
+          let p : Pair = pair (at role i) (newRow to first (at row i)) in
+          let m : i < length role = writing-reads l in
+          let q : pos v ≡ pos (newRow to first (at row i)) = e ∙ row-to old first moved to (s .move) (s .lands) (at row i) in
+          let x : v ≡ newRow to first (at row i) = cc in
+          let d : cond b done (done ++ (p ∷ [])) ≡ doneOf role row to first (i + 1) = sym (next-done m) in
+          rw x (record {
+            within = omega arith;
+            many = ap (λ (k : ℕ). k + cond b 0 1) (w .many) ∙ length-one b done p ∙ ap length d;
+            roles = subst (λ (xs : List ℕ). Begins xs oldRole left (n + cond b 0 1) (set outRole n (at role i)))
+                (roles-one b done p ∙ ap rolesOf d) (begins-more b (at role i) (w .roles) l (s .roles));
+            rows = subst (λ (xs : List ℕ). Begins xs oldRow left (n + cond b 0 1) (set outRow n (p .row)))
+                (rows-one b done p ∙ ap rowsOf d) (begins-more b (p .row) (w .rows) l (s .rows));
+          })
+
+      -- all of them
+      pub writing-done : left ≤ n → Carries role row first moved oldRole oldRow outRole outRow
+      writing-done l =
+          let z : length rest ≡ 0 = omega (arith, w .many, lengths) in
+          let y : n ≡ left = omega (arith, w .many, lengths) in
+          let d : doneOf role row to first i ≡ carried first moved (pairsOf role row) =
+          sym (split ∙ ap (λ (ps : List Pair). doneOf role row to first i ++ ps) (no-pairs rest z)
+          ∙ append-nil (doneOf role row to first i))
+          ∙ sym (carried-to old first moved to (s .move) (s .lands) (pairsOf role row)) in
+          let k : length (doneOf role row to first i) ≡ left = sym (w .many) ∙ y in
+          record {
+            role-is = rw (← d) (begins-all (length-roles (doneOf role row to first i) ∙ k)
+                (subst (λ (m : ℕ). Begins (rolesOf (doneOf role row to first i)) oldRole left m outRole) y (w .roles)));
+            row-is = rw (← d) (begins-all (length-rows (doneOf role row to first i) ∙ k)
+                (subst (λ (m : ℕ). Begins (rowsOf (doneOf role row to first i)) oldRow left m outRow) y (w .rows)));
+          }

@@ -1,0 +1,4 @@
+pub mod Leaves
+pub mod Moves
+pub mod Left
+pub mod Refound
