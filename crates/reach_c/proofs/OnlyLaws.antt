@@ -1,11 +1,12 @@
 -- Two answers that the contract of an exported function allows are equal, and so are the columns that they leave:
--- `check-only`, `find-only`, `step-only`, and `edit-only` for the three edits. Assumes nothing.
+-- `check-only`, `find-only`, `step-only`, `edit-only` for the three edits, and `carry-only`. Assumes nothing.
 use mathlib.Core.Path.{_≡_, sym, _∙_}
 use mathlib.Core.List.{List}
 use Prim.Native.Nat.{ℕ}
 use Rattle.tree.specs.Table.{Table}
 use Rattle.tree.specs.Outcome.{StepOutcome, EditOutcome, checkOutcome, findOutcome}
-use Rattle.reach_c.specs.Answer.{checkAnswer, findAnswer, StepLeaves, EditLeaves}
+use Rattle.tree.specs.Carry.{CarryOutcome}
+use Rattle.reach_c.specs.Answer.{checkAnswer, findAnswer, StepLeaves, EditLeaves, CarryLeaves}
 use Rattle.reach_c.specs.declared.answer.Answer.{Answer}
 
 pub check-only : (t : Table) {x y : Answer} → x ≡ checkAnswer (checkOutcome t) → y ≡ checkAnswer (checkOutcome t)
@@ -34,4 +35,12 @@ edit-only p q = (
   p .level-is ∙ sym (q .level-is),
   p .kind-is ∙ sym (q .kind-is),
   p .name-is ∙ sym (q .name-is),
+)
+
+pub carry-only : {o : CarryOutcome} {x y : Answer} {a b c d : List ℕ} → CarryLeaves o x a b → CarryLeaves o y c d
+    → (x ≡ y) × (a ≡ c) × (b ≡ d)
+carry-only p q = (
+  p .answers ∙ sym (q .answers),
+  p .role-is ∙ sym (q .role-is),
+  p .row-is ∙ sym (q .row-is),
 )

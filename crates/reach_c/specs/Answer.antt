@@ -5,6 +5,7 @@ use mathlib.Core.List.{List}
 use Prim.Native.Nat.{ℕ}
 use lib.IntN.{ℤ, pos}
 use Rattle.tree.specs.Outcome.{StepOutcome, EditOutcome}
+use Rattle.tree.specs.Carry.{CarryOutcome}
 use Rattle.tree.specs.declared.Checked.{Checked}
 use Rattle.tree.specs.declared.Checked.the-variants.{Passed, Refused}
 use Rattle.tree.specs.declared.Found.{Found}
@@ -13,6 +14,8 @@ use Rattle.tree.specs.declared.Stepped.{Stepped}
 use Rattle.tree.specs.declared.Stepped.the-variants.{Listed, Refused as NotListed}
 use Rattle.tree.specs.declared.Edited.{Edited}
 use Rattle.tree.specs.declared.Edited.the-variants.{Made, Refused as NotMade}
+use Rattle.tree.specs.declared.Carried.{Carried}
+use Rattle.tree.specs.declared.Carried.the-variants.{Written, Refused as NotCarried}
 use Rattle.reach_c.specs.declared.answer.Answer.{Answer}
 
 -- accepted, with two numbers and a move
@@ -57,3 +60,14 @@ pub record EditLeaves (o : EditOutcome) (answer : Answer) (key size level kind n
   pub level-is : level ≡ o .table .level
   pub kind-is : kind ≡ o .table .kind
   pub name-is : name ≡ o .table .name
+
+-- the number of pairs comes first
+unfoldable pub carryAnswer : Carried → Answer
+carryAnswer (Written n) = accepted n 0 (pos 0)
+carryAnswer (NotCarried n p) = refused n p
+
+-- the answer of carrying as C's struct, and both result columns, are those of the outcome
+pub record CarryLeaves (o : CarryOutcome) (answer : Answer) (role row : List ℕ) : Type 0 where
+  pub answers : answer ≡ carryAnswer (o .answer)
+  pub role-is : role ≡ o .role
+  pub row-is : row ≡ o .row

@@ -1,6 +1,8 @@
 // The library's answers as one struct for C. Refusal 0 is acceptance; what an answer does not use is 0.
 ghost use mathlib.Core.Path.{_≡_};
 ghost use Rattle.reach_c.specs.Answer.{accepted, refused, checkAnswer, findAnswer, stepAnswer, editAnswer};
+ghost use Rattle.reach_c.specs.Answer.{carryAnswer};
+use tree::Carried;
 use tree::Checked;
 use tree::Edited;
 use tree::Found;
@@ -78,5 +80,15 @@ pub(crate) fn of_edit(edited: Edited) -> Answer
     match edited {
         Edited::Made(done) => accept(done.count, done.first, done.moved),
         Edited::Refused(number, place) => refuse(number, place),
+    }
+}
+
+// What carrying answers: the number of pairs first.
+pub(crate) fn of_carry(carried: Carried) -> Answer
+    ensures { λ r. ⌜ r ≡ carryAnswer carried ⌝ }
+{
+    match carried {
+        Carried::Written(pairs) => accept(pairs, 0, 0),
+        Carried::Refused(number, place) => refuse(number, place),
     }
 }

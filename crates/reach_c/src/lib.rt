@@ -4,7 +4,8 @@ ghost use Rattle.tree.specs.Table.{tableOf};
 ghost use Rattle.tree.specs.Outcome.{checkOutcome, findOutcome, stepOutcome};
 ghost use Rattle.tree.specs.Outcome.{insertOutcome, deleteOutcome, renameOutcome};
 ghost use Rattle.tree.specs.Step.{askOf};
-ghost use Rattle.reach_c.specs.Answer.{checkAnswer, findAnswer, StepLeaves, EditLeaves};
+ghost use Rattle.tree.specs.Carry.{carryOutcome};
+ghost use Rattle.reach_c.specs.Answer.{checkAnswer, findAnswer, StepLeaves, EditLeaves, CarryLeaves};
 
 pub mod answer; // answer.rt: the library's answers as one struct
 
@@ -165,4 +166,23 @@ pub extern "C" fn reach_rename(
         (now (key .exit)) (now (size .exit)) (now (level .exit)) (now (kind .exit)) (now (name .exit)) ⌝ }
 {
     answer::of_edit(edit::rename(key, size, level, kind, name, count, wanted, new_name))
+}
+
+// The pairs after an edit of a table of so many rows, by the edit's first moved row and move: their number in first, or
+// refusal 1, 3, 4, 5, 17 or 8.
+#[no_mangle]
+pub extern "C" fn reach_carry(
+    role: &[usize],
+    row: &[usize],
+    old_count: usize,
+    first: usize,
+    moved: i64,
+    out_role: &mut [usize],
+    out_row: &mut [usize],
+) -> Answer
+    ensures { λ r. ⌜ CarryLeaves (carryOutcome (now (role .entry)) (now (row .entry)) «old_count» first moved
+        (now («out_role» .entry)) (now («out_row» .entry)))
+        r (now («out_role» .exit)) (now («out_row» .exit)) ⌝ }
+{
+    answer::of_carry(carry::carry(role, row, old_count, first, moved, out_role, out_row))
 }
