@@ -1,12 +1,15 @@
--- Counting the pairs that stay: at the front none, `left-none`, one row more, `left-next`, all of them, `left-all`. They
--- are as many as the carried list has, `left-carried`, `left-is`. Where the move leads to the row `to`, rows and pairs
+-- Counting the pairs that stay: at the front none, `left-none`, one row more, `left-next`, all of them, `left-all`. Where
+-- the move does not lead towards the front all stay, `left-whole`, and where all do, each does, `each-stays`. They are as
+-- many as the carried list has, `left-carried`, `left-is`. Where the move leads to the row `to`, rows and pairs
 -- in row numbers are `row-to` and `carried-to`. Assumes nothing.
 use mathlib.Core.Path.{_≡_, refl, sym, ap, _∙_}
-use mathlib.Core.Bool.{Bool, true, false, cond}
+use mathlib.Core.Bool.{Bool, true, false, cond, _&&_}
 use mathlib.Core.List.{List, [], _∷_, _++_}
-use Prim.Native.Nat.{ℕ, suc, _+_, _<_, _≤_}
+use Prim.Native.Nat.{ℕ, zero, suc, _+_, _<_, _≤_}
 use native.Mathlib.Numerals.{add-one}
 use native.Mathlib.Omega.{arith}
+use borrow.Author.Tests.{leb-true, le-ltb}
+use lib.Dec.{ltb, leb}
 use lib.IntN.{ℤ, pos, _+ℤ_}
 use lib.ListN.{length, take}
 use lib.Seq.{take-suc, take-all}
@@ -44,6 +47,45 @@ module _ (to first : ℕ) where
   -- all rows
   pub left-all : (row : List ℕ) (i : ℕ) → length row ≤ i → leftOf to first (take i row) ≡ leftOf to first row
   left-all row i l = ap (leftOf to first) (take-all i row l)
+
+  -- where the row `to` is not before the first moved row, no row goes
+  none-goes : first ≤ to → (w : ℕ) → goneRow to first w ≡ false
+  none-goes h w = go (leb to w) refl
+    where
+      go : (b : Bool) → leb to w ≡ b → (b && ltb w first) ≡ false
+      go true e = le-ltb w first (let z : to ≤ w = leb-true _ _ e in omega arith)
+      go false e = refl
+
+  -- so all stay
+  pub left-whole : first ≤ to → (row : List ℕ) → length row ≡ leftOf to first row
+  unfolding leftOf
+  left-whole h [] = refl
+  left-whole h (w ∷ ws) = rw (none-goes h w) (omega (arith, left-whole h ws))
+
+  -- no more stay than there are
+  left-most : (row : List ℕ) → leftOf to first row ≤ length row
+  unfolding leftOf
+  left-most [] = omega arith
+  left-most (w ∷ ws) = go (goneRow to first w) (left-most ws)
+    where
+      go : (b : Bool) → leftOf to first ws ≤ length ws → cond b 0 1 + leftOf to first ws ≤ suc (length ws)
+      go true h = omega arith
+      go false h = omega arith
+
+  -- where all stay, each does
+  pub each-stays : (row : List ℕ) → leftOf to first row ≡ length row → (i : ℕ) → i < length row
+      → goneRow to first (at row i) ≡ false
+  unfolding leftOf
+  each-stays [] e i l = absurd (omega arith)
+  each-stays (w ∷ ws) e i l = go (goneRow to first w) refl e i l (each-stays ws)
+    where
+      go : (b : Bool) → goneRow to first w ≡ b → cond b 0 1 + leftOf to first ws ≡ suc (length ws)
+          → (i : ℕ) → i < suc (length ws)
+          → (leftOf to first ws ≡ length ws → (i : ℕ) → i < length ws → goneRow to first (at ws i) ≡ false)
+          → goneRow to first (at (w ∷ ws) i) ≡ false
+      go true c e i l ih = absurd (omega (arith, left-most ws))
+      go false c e zero l ih = c
+      go false c e (suc i) l ih = ih (let z : leftOf to first ws ≡ length ws = omega arith in z) i (omega arith)
 
   -- as many as the carried list has
   pub left-carried : (role row : List ℕ) → length role ≡ length row

@@ -35,7 +35,7 @@ pub fn carry(
             if smaller(out_role.len(), out_row.len()) < left {
                 return Carried::Refused(8, left);
             }
-            pairs::write_left(
+            pairs::write(
                 role,
                 row,
                 old_count,

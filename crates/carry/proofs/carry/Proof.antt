@@ -40,8 +40,8 @@ returns c =
     leaves-full _ _ _ _ _ _ _ e _ _ l (counted .count-left .ensures)
     (omega (arith, c .if1 .taken, c .before .smaller .ensures))
 
-write-left-requires : tie.Need-write-left-requires
-write-left-requires c κs =
+write-requires : tie.Need-write-requires
+write-requires c κs =
     let tested = c .before .before in
     let counted = tested .before .before in
     let told = counted .before .before in
@@ -65,8 +65,8 @@ same-length-2 c = search needs
 
 returns-3 : tie.Need-returns-3
 returns-3 c =
-    let written = c .before .before .before .before in
-    let tested = written .before .before .before in
+    let wrote = c .before .before .before .before in
+    let tested = wrote .before .before .before in
     let counted = tested .before .before in
     let told = counted .before .before in
     let start = told .before .before .before .before .before .before .before in
@@ -75,7 +75,7 @@ returns-3 c =
     let l = rw back at (counted .before .moved-to .ensures) in
     leaves-written _ _ _ _ _ _ _ e _ _ l (counted .count-left .ensures)
     (omega (arith, tested .if1 .left, tested .before .smaller .ensures))
-    (rw back at (written .write-left .ensures))
+    (rw back at (wrote .write .ensures))
 
 pub carry-spec : {M : Type 1} → statement M
 carry-spec =
@@ -88,7 +88,7 @@ carry-spec =
     count-left-requires
     smaller-requires
     returns
-    write-left-requires
+    write-requires
     returns-2
     same-length
     same-length-2

@@ -4,7 +4,7 @@ use mathlib.Core.Path.{_≡_, sym, ap, ap₂, _∙_}
 use native.Mathlib.Omega.{arith}
 use lib.ListN.{length, take}
 use Rattle.carry.specs.Left.{leftOf}
-use Rattle.carry.proofs.LeftLaws.{left-none, left-next, left-all}
+use Rattle.carry.proofs.LeftLaws.{left-none, left-next, left-all, left-whole}
 use borrow.Author.Needs.{needs}
 use Rattle.carry.proofs.pairs.count_left.Statement.{statement}
 use Rattle.carry.proofs.pairs.count_left.Tie as tie
@@ -17,8 +17,11 @@ Inv-loop row to first left₀ i₀ left i = (i ≤ length row) × (left ≤ i) �
 abbrev μ-loop : tie.MeasureT-loop
 μ-loop row to first left₀ i₀ left i = length row - i
 
+returns : tie.Need-returns Inv-loop μ-loop
+returns c = left-whole _ _ (c .if1 .taken) _
+
 loop-holds : tie.Need-loop-holds Inv-loop μ-loop
-loop-holds c = (search needs, search needs, sym (left-none _ _ (c .before .args .row .now)))
+loop-holds c = (search needs, search needs, sym (left-none _ _ (c .before .before .args .row .now)))
 
 mul-stays : tie.Need-mul-stays Inv-loop μ-loop
 mul-stays c = search needs
@@ -41,14 +44,14 @@ loop-less c = search needs
 loop-again : tie.Need-loop-again Inv-loop μ-loop
 loop-again c =
     let head = c .before .before .before in
-    let here = left-next _ _ (head .before .before .args .row .now) (head .loop .i) (c .before .before .loop-test .taken) in (
+    let here = left-next _ _ (head .before .before .before .args .row .now) (head .loop .i) (c .before .before .loop-test .taken) in (
       search needs,
       omega (arith, c .stays .ensures .1, head .loop .inv .1),
       ap₂ (λ (a b : ℕ). a + b) (head .loop .inv .2) (c .stays .ensures .0) ∙ sym here,
     )
 
-returns : tie.Need-returns Inv-loop μ-loop
-returns c = c .before .loop .inv .2 ∙ left-all _ _ _ _ (c .loop-test .left)
+returns-2 : tie.Need-returns-2 Inv-loop μ-loop
+returns-2 c = c .before .loop .inv .2 ∙ left-all _ _ _ _ (c .loop-test .left)
 
 pub count-left-spec : {M : Type 1} → statement M
 count-left-spec =
@@ -56,6 +59,7 @@ count-left-spec =
     (tie.spec
     Inv-loop
     μ-loop
+    returns
     loop-holds
     mul-stays
     shared-slice-read-stays
@@ -64,4 +68,4 @@ count-left-spec =
     add-i
     loop-less
     loop-again
-    returns)
+    returns-2)
