@@ -1,3 +1,4 @@
+-- A row between the two rows went, `between`, any other did not, `before-it`, `behind-it`.
 -- Counting the pairs that stay: at the front none, `left-none`, one row more, `left-next`, all of them, `left-all`. Where
 -- the move does not lead towards the front all stay, `left-whole`, and where all do, each does, `each-stays`. They are as
 -- many as the carried list has, `left-carried`, `left-is`. Where the move leads to the row `to`, rows and pairs
@@ -8,7 +9,8 @@ use mathlib.Core.List.{List, [], _∷_, _++_}
 use Prim.Native.Nat.{ℕ, zero, suc, _+_, _<_, _≤_}
 use native.Mathlib.Numerals.{add-one}
 use native.Mathlib.Omega.{arith}
-use borrow.Author.Tests.{leb-true, le-ltb}
+use native.Mathlib.Decide.{decLt}
+use borrow.Author.Tests.{le-leb, lt-leb, lt-ltb, le-ltb}
 use lib.Dec.{ltb, leb}
 use lib.IntN.{ℤ, pos, _+ℤ_}
 use lib.ListN.{length, take}
@@ -21,6 +23,22 @@ use Rattle.tree.proofs.MoveLaws.{move-ok, new-row}
 use Rattle.tree.proofs.CarryAccept.{carried-is}
 use Rattle.carry.specs.Left.{leftOf}
 
+-- ── one row ──
+-- a row in between was deleted, any other was not
+pub between : (a b w : ℕ) → a ≤ w → w < b → goneRow a b w ≡ true
+between a b w l m = rw (le-leb a w l, lt-ltb w b m)
+
+pub before-it : (a b w : ℕ) → w < a → goneRow a b w ≡ false
+before-it a b w l = rw (lt-leb a w l)
+
+pub behind-it : (a b w : ℕ) → b ≤ w → goneRow a b w ≡ false
+behind-it a b w l = go (leb a w)
+  where
+    go : (c : Bool) → (c && ltb w b) ≡ false
+    go true = le-ltb w b l
+    go false = refl
+
+-- ── all rows ──
 module _ (to first : ℕ) where
   -- of no rows none stay
   pub left-none : (row : List ℕ) → leftOf to first (take 0 row) ≡ 0
@@ -50,11 +68,7 @@ module _ (to first : ℕ) where
 
   -- where the row `to` is not before the first moved row, no row goes
   none-goes : first ≤ to → (w : ℕ) → goneRow to first w ≡ false
-  none-goes h w = go (leb to w) refl
-    where
-      go : (b : Bool) → leb to w ≡ b → (b && ltb w first) ≡ false
-      go true e = le-ltb w first (let z : to ≤ w = leb-true _ _ e in omega arith)
-      go false e = refl
+  none-goes h w = elim (decLt w to) [ yes l ↦ before-it to first w l | no l ↦ behind-it to first w (omega arith) ]
 
   -- so all stay
   pub left-whole : first ≤ to → (row : List ℕ) → length row ≡ leftOf to first row

@@ -21,6 +21,7 @@ use Rattle.commute.specs.Again.{goes}
 use Rattle.commute.proofs.ActLaws.{Fits, accepted-has}
 use Rattle.commute.proofs.FoundAgain.{plus-minus, after-gap}
 use Rattle.commute.proofs.GoneLaws.{in-gap}
+use Rattle.carry.proofs.LeftLaws.{between, before-it, behind-it}
 
 -- ── the move fits ──
 -- an edit's answer fits the table that it edits, and the count that it leaves is the new one
@@ -97,20 +98,6 @@ pub edit-moves : (a : Act) (t : Table) (d : Done) → outcome a t .answer ≡ Ma
 edit-moves a t d e = accepted-has (Moved t) a t d e (after-moves a t)
 
 -- ── the rows that are dropped ──
--- a row in between was deleted, any other was not
-between : (a b w : ℕ) → a ≤ w → w < b → goneRow a b w ≡ true
-between a b w l m = rw (le-leb a w l, lt-ltb w b m)
-
-before-it : (a b w : ℕ) → w < a → goneRow a b w ≡ false
-before-it a b w l = rw (lt-leb a w l)
-
-behind-it : (a b w : ℕ) → b ≤ w → goneRow a b w ≡ false
-behind-it a b w l = go (leb a w)
-  where
-    go : (c : Bool) → (c && ltb w b) ≡ false
-    go true = le-ltb w b l
-    go false = refl
-
 -- by the definitions, the rows dropped are those that go
 after-dropped : (a : Act) (t : Table) → Fits a t → (w : ℕ) → w < t .count
     → wasDeleted (doneOf a t .first) (doneOf a t .moved) w ≡ goes a t w

@@ -34,11 +34,11 @@ pub(crate) fn stays(to: usize, first: usize, row: usize) -> usize
     ensures counted { λ r. ⌜ r ≡ cond (goneRow to first row) 0 1 ⌝ }
     ensures small { λ r. ⌜ r ≤ 1 ⌝ }
 {
+    if first <= row {
+        return 1;
+    }
     if row < to {
         return 1;
     }
-    if row < first {
-        return 0;
-    }
-    1
+    0
 }
