@@ -10,6 +10,7 @@
 mod answer;
 mod edit;
 mod links;
+mod pairs;
 mod sound;
 mod step;
 mod table;
@@ -17,7 +18,8 @@ mod tree;
 
 pub use answer::Answer;
 pub use edit::{delete, insert, rename, TableMut};
-pub use step::{step, Pairs, Question, Results};
+pub use pairs::{Pairs, Results};
+pub use step::{step, Question};
 pub use table::Table;
 
 use answer::Refused;

@@ -2,30 +2,9 @@
 
 use crate::answer::{Answer, Refused};
 use crate::links::Links;
+use crate::pairs::{Pairs, Results};
 use crate::sound_rows;
 use crate::table::{Rows, Table};
-use crate::MOST_ROWS;
-
-/// The most pairs that a call may have.
-const MOST_PAIRS: usize = MOST_ROWS;
-
-/// Two columns that give role and row of each pair.
-#[derive(Clone, Copy, Debug)]
-pub struct Pairs<'a> {
-    /// Roles.
-    pub role: &'a [usize],
-    /// Rows.
-    pub row: &'a [usize],
-}
-
-/// The two columns that results are written to.
-#[derive(Debug)]
-pub struct Results<'a> {
-    /// Roles.
-    pub role: &'a mut [usize],
-    /// Rows.
-    pub row: &'a mut [usize],
-}
 
 /// What is asked along the way: the axis, and the test with its name.
 #[derive(Clone, Copy, Debug)]
@@ -58,36 +37,17 @@ fn accepted(
     results: &mut Results<'_>,
 ) -> Result<(usize, usize), Refused> {
     let rows = sound_rows(table)?;
-    let pairs = good_pairs(pairs, rows.count())?;
+    let mut pairs = pairs.good(rows.count())?;
     good_question(question)?;
+    // Equal pairs count once.
+    pairs.dedup();
     let links = Links::of(&rows);
-    let room = results.role.len().min(results.row.len());
-    let found = Found::of(&rows, &links, &pairs, question, room);
-    if found.count > room {
+    let found = Found::of(&rows, &links, &pairs, question, results.room());
+    if found.count > results.room() {
         return Err(Refused { number: 8, place: found.count });
     }
-    for (place, &(role, row)) in found.listed.iter().enumerate() {
-        results.role[place] = role;
-        results.row[place] = row;
-    }
+    results.write(&found.listed);
     Ok((found.count, kept_count(&links, &pairs, question.axis)))
-}
-
-/// The distinct pairs in their order, unless refusal 3, 4 or 5 applies.
-fn good_pairs(pairs: &Pairs<'_>, count: usize) -> Result<Vec<(usize, usize)>, Refused> {
-    if pairs.role.len() != pairs.row.len() || pairs.role.len() > MOST_PAIRS {
-        return Err(Refused { number: 3, place: 0 });
-    }
-    let mut list: Vec<(usize, usize)> =
-        pairs.role.iter().copied().zip(pairs.row.iter().copied()).collect();
-    if let Some(place) = (1..list.len()).find(|&place| list[place] < list[place - 1]) {
-        return Err(Refused { number: 4, place });
-    }
-    if let Some(place) = (0..list.len()).find(|&place| list[place].1 >= count) {
-        return Err(Refused { number: 5, place });
-    }
-    list.dedup();
-    Ok(list)
 }
 
 fn good_question(question: Question) -> Result<(), Refused> {
