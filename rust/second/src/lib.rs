@@ -2,12 +2,14 @@
 //! words of its rules.
 //!
 //! It takes every row against every row, follows parent links that it finds by searching back,
-//! and edits a tree of linked nodes. It shares no method with the library it is compared with,
-//! and prefers what can be read at once to what is fast.
+//! edits a tree of linked nodes, and carries pairs by looking their rows up in a list of all rows.
+//! It shares no method with the library it is compared with, and prefers what can be read at once
+//! to what is fast.
 
 #![forbid(unsafe_code)]
 
 mod answer;
+mod carry;
 mod edit;
 mod links;
 mod pairs;
@@ -17,6 +19,7 @@ mod table;
 mod tree;
 
 pub use answer::Answer;
+pub use carry::carry;
 pub use edit::{delete, insert, rename, TableMut};
 pub use pairs::{Pairs, Results};
 pub use step::{step, Question};
