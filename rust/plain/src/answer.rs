@@ -8,7 +8,8 @@ pub struct Answer {
     pub refusal: usize,
     /// The refusal's place.
     pub place: usize,
-    /// Find: the row. Step: the number of results. Edits: the new count.
+    /// Find: the row. Step: the number of results. Edits: the new count. Carry: the length of the
+    /// new list.
     pub first: usize,
     /// Step: the kept count. Edits: the first moved row, in old numbering.
     pub second: usize,

@@ -1,13 +1,14 @@
 //! The reach engine in plain, unverified Rust with the same contract: what a benchmark of the
 //! verified library is held against.
 //!
-//! Every call checks the whole table in one pass: a stack of open rows for the sizes, and a hash
-//! table in a local array for the keys.
+//! Every call with a table checks the whole of it in one pass: a stack of open rows for the sizes,
+//! and a hash table in a local array for the keys.
 
 #![forbid(unsafe_code)]
 
 mod answer;
 mod axes;
+mod carry;
 mod check;
 mod edit;
 mod filter;
@@ -20,6 +21,7 @@ mod step;
 mod table;
 
 pub use answer::Answer;
+pub use carry::carry;
 pub use edit::{delete, insert, rename, TableMut};
 pub use pairs::Pairs;
 pub use sink::Results;

@@ -1,4 +1,4 @@
-//! The pairs that a step is asked for.
+//! The pairs that a step or a carry is asked for.
 
 use crate::answer::Answer;
 use crate::MOST_ROWS;
@@ -13,7 +13,9 @@ pub struct Pairs<'a> {
 }
 
 impl<'a> Pairs<'a> {
-    /// Refusals 3, 4 and 5; otherwise the number of roles.
+    /// Refusals 3, 4 and 5; otherwise the number of roles, which costs nothing where it is not
+    /// asked for.
+    #[inline(always)]
     pub(crate) fn check(&self, count: usize) -> Result<usize, Answer> {
         let (role, row) = (self.role, self.row);
         if role.len() != row.len() || role.len() > MOST_ROWS {
