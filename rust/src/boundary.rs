@@ -18,7 +18,8 @@ pub struct Answer {
     pub refusal: usize,
     /// The refusal's place.
     pub place: usize,
-    /// Find: the row. Step: the number of results. Edits: the new count.
+    /// Find: the row. Step: the number of results. Edits: the new count. Carry: the length of the
+    /// new list.
     pub first: usize,
     /// Step: the kept count. Edits: the first moved row, in old numbering.
     pub second: usize,
@@ -93,6 +94,22 @@ declare! {
     );
     fn reach_delete(table: *mut; wanted: usize);
     fn reach_rename(table: *mut; wanted: usize, new_name: usize);
+}
+
+extern "C" {
+    fn reach_carry(
+        role: *const usize,
+        role_length: usize,
+        row: *const usize,
+        row_length: usize,
+        old_count: usize,
+        first: usize,
+        moved: i64,
+        out_role: *mut usize,
+        out_role_length: usize,
+        out_row: *mut usize,
+        out_row_length: usize,
+    ) -> Answer;
 }
 
 /// Calls an exported function with the columns and the count of a table, then with the rest.
@@ -185,4 +202,32 @@ pub fn delete(table: &mut TableMut<'_>, wanted: usize) -> Answer {
 /// Gives the row with the key another name: refusals 1, 2, 9 and 16.
 pub fn rename(table: &mut TableMut<'_>, wanted: usize, new_name: usize) -> Answer {
     call!(reach_rename, table, as_mut_ptr, wanted, new_name)
+}
+
+/// Carries pairs over an edit of a table that had `old_count` rows, by the first moved row and the
+/// move that it answered: refusals 1, 3, 4, 5, 17 and 8, in this order.
+pub fn carry(
+    pairs: Pairs<'_>,
+    old_count: usize,
+    first: usize,
+    moved: i64,
+    results: Results<'_>,
+) -> Answer {
+    // SAFETY: each pointer and length come from one slice, which stays lent during the call; the
+    // result columns are lent to this call alone.
+    unsafe {
+        reach_carry(
+            pairs.role.as_ptr(),
+            pairs.role.len(),
+            pairs.row.as_ptr(),
+            pairs.row.len(),
+            old_count,
+            first,
+            moved,
+            results.role.as_mut_ptr(),
+            results.role.len(),
+            results.row.as_mut_ptr(),
+            results.row.len(),
+        )
+    }
 }

@@ -21,7 +21,8 @@ pub struct TableMut<'a> {
     pub count: usize,
 }
 
-/// What an accepted edit answers.
+/// What an accepted edit answers. It is all that is needed to carry pairs over the edit:
+/// [`Pairs::carry`](crate::Pairs::carry).
 #[derive(Clone, Copy, Debug, PartialEq, Eq)]
 pub struct Edited {
     /// The new count of rows in use.

@@ -1,6 +1,6 @@
 //! Safe Rust over the reach engine, a verified library that works on lent columns: it checks a
-//! node table, finds a row by its key, answers one location step for many roles at once, and
-//! edits the table.
+//! node table, finds a row by its key, answers one location step for many roles at once, edits the
+//! table, and carries the roles' rows over an edit.
 //!
 //! A table is five columns of numbers, one row for each node in document order, and a count of
 //! the rows in use. Nothing is copied: the library reads and writes the slices that are lent to
@@ -25,6 +25,7 @@
 //! ```
 
 pub mod boundary;
+mod carry;
 mod edit;
 pub mod farm;
 mod refusal;

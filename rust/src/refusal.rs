@@ -3,8 +3,8 @@
 use std::error::Error;
 use std::fmt;
 
-/// The sixteen reasons to refuse a call. Where several apply, the one of the lowest number is
-/// given, and every column that was lent is unchanged.
+/// The seventeen reasons to refuse a call. Where several apply, the one of the lowest number is
+/// given, but number 17 before number 8; and every column that was lent is unchanged.
 ///
 /// ```
 /// use reach::Refusal;
@@ -15,7 +15,8 @@ use std::fmt;
 /// ```
 #[derive(Clone, Copy, Debug, PartialEq, Eq, Hash)]
 pub enum Refusal {
-    /// 1: the count of rows is 0, above 4,096, or above the shortest table column.
+    /// 1: the count of rows is 0, above 4,096, or above the shortest table column. In a carry it is
+    /// the count before the edit, and there is no table column.
     BadCount,
     /// 2: a row is not sound.
     UnsoundRow {
@@ -29,7 +30,7 @@ pub enum Refusal {
         /// The least such place among the pairs.
         place: usize,
     },
-    /// 5: a pair names a row that is not in use.
+    /// 5: a pair names a row that is not in use; in a carry, that was not in use before the edit.
     PairOutsideTable {
         /// The least such place among the pairs.
         place: usize,
@@ -40,7 +41,7 @@ pub enum Refusal {
     BadTest,
     /// 8: there are more results than the shorter result column holds.
     TooManyResults {
-        /// The number of results.
+        /// The number of results; in a carry, the length of the new list.
         results: usize,
     },
     /// 9: no row in use has the key.
@@ -68,6 +69,9 @@ pub enum Refusal {
         /// The row to rename.
         row: usize,
     },
+    /// 17: no edit answers these numbers: the first moved row is 0 or above the old count, or falls
+    /// below 1 once the move is added, or the new count would lie outside 1 to 4,096.
+    BadMove,
 }
 
 impl Refusal {
@@ -75,7 +79,7 @@ impl Refusal {
     ///
     /// # Panics
     ///
-    /// On a number other than 1 to 16, which the library never answers.
+    /// On a number other than 1 to 17, which the library never answers.
     pub fn from_number(number: usize, place: usize) -> Refusal {
         match number {
             1 => Refusal::BadCount,
@@ -94,11 +98,12 @@ impl Refusal {
             14 => Refusal::NoRoom,
             15 => Refusal::DeletesRoot,
             16 => Refusal::BadRename { row: place },
+            17 => Refusal::BadMove,
             _ => panic!("the library answered refusal {number}, which does not exist"),
         }
     }
 
-    /// The refusal's number, 1 to 16.
+    /// The refusal's number, 1 to 17.
     pub fn number(self) -> usize {
         match self {
             Refusal::BadCount => 1,
@@ -117,6 +122,7 @@ impl Refusal {
             Refusal::NoRoom => 14,
             Refusal::DeletesRoot => 15,
             Refusal::BadRename { .. } => 16,
+            Refusal::BadMove => 17,
         }
     }
 
@@ -138,7 +144,8 @@ impl fmt::Display for Refusal {
     fn fmt(&self, out: &mut fmt::Formatter<'_>) -> fmt::Result {
         match self {
             Refusal::BadCount => out.write_str(
-                "the count of rows must be 1 to 4,096, and every table column must be that long",
+                "the count of rows (before the edit, where pairs are carried) must be 1 to 4,096, \
+                 and every table column must be that long",
             ),
             Refusal::UnsoundRow { row } => write!(
                 out,
@@ -151,9 +158,11 @@ impl fmt::Display for Refusal {
                 out,
                 "the pair at place {place} is less than the one before it: sort by role, then row"
             ),
-            Refusal::PairOutsideTable { place } => {
-                write!(out, "the pair at place {place} names a row that the table doesn't have")
-            }
+            Refusal::PairOutsideTable { place } => write!(
+                out,
+                "the pair at place {place} names a row that the table doesn't have \
+                 (before the edit, where pairs are carried)"
+            ),
             Refusal::BadAxis => out.write_str("the axis code must be 1 to 11"),
             Refusal::BadTest => out.write_str(
                 "the test code must be 0 to 7, with a name for tests 2 and 6 and without one else",
@@ -182,6 +191,11 @@ impl fmt::Display for Refusal {
                 out,
                 "row {row} can't get this name: only elements and processing instructions have a name, other than 0"
             ),
+            Refusal::BadMove => out.write_str(
+                "these numbers are not what an edit of this table answers: its first moved row is \
+                 1 to the old count, still at least 1 once the move is added, and the new count is \
+                 1 to 4,096",
+            ),
         }
     }
 }
@@ -194,7 +208,7 @@ mod tests {
 
     #[test]
     fn numbers_and_places_come_back() {
-        for number in 1..=16 {
+        for number in 1..=17 {
             let refusal = Refusal::from_number(number, 3);
             assert_eq!(refusal.number(), number);
             let has_place = [2, 4, 5, 8, 11, 13, 16].contains(&number);

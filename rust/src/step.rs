@@ -3,8 +3,8 @@
 use crate::boundary;
 use crate::{Refusal, Table};
 
-/// The pairs of a step: each says that a role holds a row. They ascend by role, then row; a pair
-/// that comes twice counts once.
+/// Pairs of role and row: each says that a role holds a row. They ascend by role, then row; in a
+/// step a pair that comes twice counts once.
 #[derive(Clone, Copy, Debug, PartialEq, Eq)]
 pub struct Pairs<'a> {
     /// The role of each pair.
@@ -13,8 +13,8 @@ pub struct Pairs<'a> {
     pub row: &'a [usize],
 }
 
-/// The two columns that a step writes its results to, from place 0 on. They need not be equally
-/// long: the shorter one says how many results there is room for.
+/// The two columns that a step writes its results to, or a carry its new list, from place 0 on.
+/// They need not be equally long: the shorter one says how many results there is room for.
 #[derive(Debug, PartialEq, Eq)]
 pub struct Results<'a> {
     /// The role of each result.
