@@ -10,9 +10,9 @@
  * call may write is lent to another. A column passed as a pointer to const is only read. Any other may be written,
  * and is left as it was, in every element, when the call is refused. A call needs less than 128 KB of stack.
  *
- * No input needs checking first: a bad table, pair, code or key gets a refusal. Two duties remain with the caller,
- * as for any C function: a pointer is never null (also at length 0) and reaches as many elements as the length
- * says, and a column that a function may write overlaps no other column of the call.
+ * No input needs checking first: a bad table, pair, code, key or move gets a refusal. Two duties remain with the
+ * caller, as for any C function: a pointer is never null (also at length 0) and reaches as many elements as the
+ * length says, and a column that a function may write overlaps no other column of the call.
  *
  * Nodes: kind 0 document, 1 element, 2 text, 3 comment, 4 processing instruction. Limits: 1 to 4,096 rows, levels
  * 0 to 63, at most 4,096 pairs.
@@ -31,12 +31,15 @@ extern "C" {
 typedef struct {
     size_t refusal; /* 0: accepted; else the number below */
     size_t place;   /* where: a row, a pair's place or a number of results, by the number; else 0 */
-    size_t first;   /* find: the row; step: the number of results; edits: the new count */
+    size_t first;   /* find: the row; step: the number of results; edits: the new count; carry: the new length */
     size_t second;  /* step: the kept count; edits: the first moved row, in old numbering */
     int64_t moved;  /* edits: by how many rows it moved, negative for a deletion */
 } reach_answer;
 
-/* Refusal numbers. Where several apply, the lowest is given. */
+/*
+ * Refusal numbers. Where several apply, the lowest is given, but 17 before 8. In a carry, which lends no table, the
+ * count is the old one, before the edit, and the results are the pairs of the new list.
+ */
 enum {
     REACH_BAD_COUNT = 1,          /* the count is 0, above 4,096, or above the shortest table column; place 0 */
     REACH_UNSOUND_ROW = 2,        /* a row is not sound; place: the least such row */
@@ -53,7 +56,9 @@ enum {
     REACH_KEY_TAKEN = 13,         /* a piece's key is in the table; place: the least such piece row */
     REACH_NO_ROOM = 14,           /* the new count would exceed 4,096 or the shortest table column; place 0 */
     REACH_DELETES_ROOT = 15,      /* the row to delete is row 0; place 0 */
-    REACH_BAD_RENAME = 16         /* the row to rename is not of kind 1 or 4, or the new name is 0; place: its row */
+    REACH_BAD_RENAME = 16,        /* the row to rename is not of kind 1 or 4, or the new name is 0; place: its row */
+    REACH_BAD_MOVE = 17           /* the first moved row is 0 or above the old count, or falls below 1 once the move is
+                                     added, or the new count would lie outside 1 to 4,096; place 0 */
 };
 
 /* Axis codes of a step. */
@@ -133,6 +138,19 @@ reach_answer reach_delete(size_t *key, size_t key_length, size_t *size, size_t s
 reach_answer reach_rename(size_t *key, size_t key_length, size_t *size, size_t size_length, size_t *level,
                           size_t level_length, size_t *kind, size_t kind_length, size_t *name, size_t name_length,
                           size_t count, size_t wanted, size_t new_name);
+
+/*
+ * Pairs (role, row) that are kept between edits, carried over one: refusals 1, 3, 4, 5, 17 and 8, in this order.
+ * old_count is the count before the edit; first and moved are what the edit answered in second and moved. Rows at or
+ * past first move by moved; on a deletion the pairs of the deleted rows are dropped, which are the -moved rows
+ * directly before first. So each pair that remains names the same key as before, and one is dropped exactly when its
+ * key is gone. Reads the pairs, which ascend by role, then row. Writes out_role and out_row alone: the new list, in
+ * the same order, equal pairs still equal, from place 0 on; places beyond it stay as they were. The next step takes
+ * the new list as it is. first of the answer: its length.
+ */
+reach_answer reach_carry(const size_t *role, size_t role_length, const size_t *row, size_t row_length,
+                         size_t old_count, size_t first, int64_t moved, size_t *out_role, size_t out_role_length,
+                         size_t *out_row, size_t out_row_length);
 
 #ifdef __cplusplus
 }

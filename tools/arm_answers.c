@@ -16,6 +16,8 @@ typedef struct {
 #define PASSED                                                                                     \
     key, key_length, size, size_length, level, level_length, kind, kind_length, name, name_length, \
         count
+#define PAIRS IN role, size_t role_length, IN row, size_t row_length
+#define RESULTS OUT out_role, size_t out_role_length, OUT out_row, size_t out_row_length
 
 #ifdef HAS_check
 Answer *reach_check_at(Answer *, TABLE(IN));
@@ -36,8 +38,6 @@ Answer reach_find(TABLE(IN), size_t wanted) {
 #endif
 
 #ifdef HAS_step
-#define PAIRS IN role, size_t role_length, IN row, size_t row_length
-#define RESULTS OUT out_role, size_t out_role_length, OUT out_row, size_t out_row_length
 Answer *reach_step_at(Answer *, TABLE(IN), PAIRS, size_t, size_t, size_t, RESULTS);
 Answer reach_step(TABLE(IN), PAIRS, size_t axis, size_t test, size_t test_name, RESULTS) {
     Answer answer;
@@ -75,6 +75,16 @@ Answer *reach_rename_at(Answer *, TABLE(OUT), size_t, size_t);
 Answer reach_rename(TABLE(OUT), size_t wanted, size_t new_name) {
     Answer answer;
     reach_rename_at(&answer, PASSED, wanted, new_name);
+    return answer;
+}
+#endif
+
+#ifdef HAS_carry
+Answer *reach_carry_at(Answer *, PAIRS, size_t, size_t, int64_t, RESULTS);
+Answer reach_carry(PAIRS, size_t old_count, size_t first, int64_t moved, RESULTS) {
+    Answer answer;
+    reach_carry_at(&answer, role, role_length, row, row_length, old_count, first, moved, out_role,
+                   out_role_length, out_row, out_row_length);
     return answer;
 }
 #endif

@@ -52,8 +52,10 @@ static reach_answer answer(const size_t *head, size_t **c, const size_t *n)
         return reach_insert(TABLE, head[2], c[5], n[5], c[6], n[6], c[7], n[7], c[8], n[8], c[9], n[9], head[3]);
     case 4:
         return reach_delete(TABLE, head[2]);
-    default:
+    case 5:
         return reach_rename(TABLE, head[2], head[3]);
+    default:
+        return reach_carry(c[5], n[5], c[6], n[6], head[1], head[2], (int64_t)head[3], c[7], n[7], c[8], n[8]);
     }
 }
 
