@@ -29,16 +29,48 @@ impl Columns {
     }
 }
 
-/// What a step lends beside the table.
+/// A list of pairs, and the two columns that results are written to.
 #[derive(Clone, Debug, Default, PartialEq, Eq)]
-pub struct Step {
+pub struct Lists {
     pub role: Vec<usize>,
     pub row: Vec<usize>,
+    pub out_role: Vec<usize>,
+    pub out_row: Vec<usize>,
+}
+
+/// The names of the four columns, in their order.
+const LIST_NAMES: [&str; 4] = ["role", "row", "out_role", "out_row"];
+
+impl Lists {
+    fn each(&self) -> [&Vec<usize>; 4] {
+        [&self.role, &self.row, &self.out_role, &self.out_row]
+    }
+
+    fn each_mut(&mut self) -> [&mut Vec<usize>; 4] {
+        [&mut self.role, &mut self.row, &mut self.out_role, &mut self.out_row]
+    }
+
+    /// How many results there is room for.
+    pub fn room(&self) -> usize {
+        self.out_role.len().min(self.out_row.len())
+    }
+
+    /// Writes results that there is room for.
+    pub fn write(&mut self, results: &[(usize, usize)]) {
+        for (place, &(role, row)) in results.iter().enumerate() {
+            self.out_role[place] = role;
+            self.out_row[place] = row;
+        }
+    }
+}
+
+/// What a step lends beside the table, and what it asks.
+#[derive(Clone, Debug, Default, PartialEq, Eq)]
+pub struct Step {
+    pub lists: Lists,
     pub axis: usize,
     pub test: usize,
     pub test_name: usize,
-    pub out_role: Vec<usize>,
-    pub out_row: Vec<usize>,
 }
 
 /// What an insertion lends beside the table.
@@ -123,13 +155,27 @@ impl Case {
         }
     }
 
+    /// The list of pairs and the result columns of a call that has them.
+    pub fn lists(&self) -> Option<&Lists> {
+        match &self.call {
+            Call::Step(step) => Some(&step.lists),
+            _ => None,
+        }
+    }
+
+    /// The same, to be changed.
+    pub fn lists_mut(&mut self) -> Option<&mut Lists> {
+        match &mut self.call {
+            Call::Step(step) => Some(&mut step.lists),
+            _ => None,
+        }
+    }
+
     /// Every lent column, in the order of `lent`.
     pub fn lent_mut(&mut self) -> Vec<&mut Vec<usize>> {
         let mut lent: Vec<_> = self.table.each_mut().into();
         match &mut self.call {
-            Call::Step(step) => {
-                lent.extend([&mut step.role, &mut step.row, &mut step.out_role, &mut step.out_row])
-            }
+            Call::Step(step) => lent.extend(step.lists.each_mut()),
             Call::Insert(insert) => lent.extend(insert.piece.each_mut()),
             Call::Check | Call::Find { .. } | Call::Delete { .. } | Call::Rename { .. } => {}
         }
@@ -138,24 +184,25 @@ impl Case {
 
     /// Every lent column with its name.
     pub fn lent(&self) -> Vec<(String, &[usize])> {
-        let mut lent = named("", &self.table);
+        let mut lent = named("", COLUMN_NAMES, self.table.each());
         match &self.call {
-            Call::Step(step) => lent.extend([
-                ("role".to_string(), step.role.as_slice()),
-                ("row".to_string(), step.row.as_slice()),
-                ("out_role".to_string(), step.out_role.as_slice()),
-                ("out_row".to_string(), step.out_row.as_slice()),
-            ]),
-            Call::Insert(insert) => lent.extend(named("piece_", &insert.piece)),
+            Call::Step(step) => lent.extend(named("", LIST_NAMES, step.lists.each())),
+            Call::Insert(insert) => {
+                lent.extend(named("piece_", COLUMN_NAMES, insert.piece.each()));
+            }
             Call::Check | Call::Find { .. } | Call::Delete { .. } | Call::Rename { .. } => {}
         }
         lent
     }
 }
 
-/// The five columns with their names.
-fn named<'a>(prefix: &str, columns: &'a Columns) -> Vec<(String, &'a [usize])> {
-    let named = COLUMN_NAMES.iter().zip(columns.each());
+/// Columns with their names.
+fn named<'a, const COLUMNS: usize>(
+    prefix: &str,
+    names: [&str; COLUMNS],
+    columns: [&'a Vec<usize>; COLUMNS],
+) -> Vec<(String, &'a [usize])> {
+    let named = names.into_iter().zip(columns);
     named.map(|(name, column)| (format!("{prefix}{name}"), column.as_slice())).collect()
 }
 

@@ -72,9 +72,9 @@ macro_rules! engine {
                     Call::Find { wanted } => $package::find(&lend!(Table, table, count), *wanted),
                     Call::Step(step) => $package::step(
                         &lend!(Table, table, count),
-                        &Pairs { role: &step.role, row: &step.row },
+                        &Pairs { role: &step.lists.role, row: &step.lists.row },
                         Question { axis: step.axis, test: step.test, test_name: step.test_name },
-                        &mut Results { role: &mut step.out_role, row: &mut step.out_row },
+                        &mut Results { role: &mut step.lists.out_role, row: &mut step.lists.out_row },
                     ),
                     Call::Insert(insert) => $package::insert(
                         &mut lend_mut!(TableMut, table, count),

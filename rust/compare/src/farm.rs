@@ -3,7 +3,7 @@
 mod edits;
 mod steps;
 
-use crate::case::{Answer, Call, Case, Columns};
+use crate::case::{Answer, Call, Case, Columns, Lists};
 use crate::judge::{Difference, Judge};
 use crate::tables::chain;
 
@@ -15,6 +15,19 @@ pub fn farm() -> Columns {
         level: vec![0, 1, 2, 3, 2, 3, 1, 2, 3, 1],
         kind: vec![1, 1, 1, 1, 1, 1, 1, 1, 1, 3],
         name: vec![1, 2, 3, 4, 3, 4, 2, 3, 4, 0],
+    }
+}
+
+/// What the places of result columns hold before a call.
+const UNWRITTEN: usize = 77;
+
+/// The farm's pairs, with result columns of so many places.
+fn farm_lists(room: usize) -> Lists {
+    Lists {
+        role: vec![5, 5, 7],
+        row: vec![1, 2, 6],
+        out_role: vec![UNWRITTEN; room],
+        out_row: vec![UNWRITTEN; room],
     }
 }
 

@@ -13,6 +13,7 @@ mod edits;
 mod engine;
 mod farm;
 mod judge;
+mod lists;
 mod notes;
 mod options;
 mod progress;

@@ -1,6 +1,6 @@
 //! What must come up in a run beside the refusals, so that a generator that drifts is noticed.
 
-use crate::case::{Answer, Call, Case, Step};
+use crate::case::{Answer, Call, Case, Lists};
 use crate::options::Part;
 
 const MOST_ROWS: usize = 4_096;
@@ -67,35 +67,35 @@ static CHECKS: [Note; 10] = [
 
 static STEPS: [Note; 11] = [
     step("no pairs, accepted", 1_000, |case, answer| {
-        answer.refusal == 0 && step_of(case).row.is_empty()
+        answer.refusal == 0 && lists_of(case).row.is_empty()
     }),
     step("4,096 pairs, accepted", 50, |case, answer| {
-        answer.refusal == 0 && step_of(case).row.len() == MOST_PAIRS
+        answer.refusal == 0 && lists_of(case).row.len() == MOST_PAIRS
     }),
     step("too many pairs in columns of equal length", 50, |case, answer| {
-        answer.refusal == 3 && step_of(case).row.len() == step_of(case).role.len()
+        answer.refusal == 3 && lists_of(case).row.len() == lists_of(case).role.len()
     }),
     step("more than 1,000 roles, accepted", 50, |case, answer| {
-        answer.refusal == 0 && step_of(case).role.chunk_by(usize::eq).count() > 1_000
+        answer.refusal == 0 && lists_of(case).role.chunk_by(usize::eq).count() > 1_000
     }),
     step("equal pairs, accepted", 1_000, |case, answer| {
-        let pairs = |place: usize| (step_of(case).role[place], step_of(case).row[place]);
-        answer.refusal == 0 && (1..step_of(case).row.len()).any(|at| pairs(at) == pairs(at - 1))
+        let pairs = |place: usize| (lists_of(case).role[place], lists_of(case).row[place]);
+        answer.refusal == 0 && (1..lists_of(case).row.len()).any(|at| pairs(at) == pairs(at - 1))
     }),
     step("empty result columns, refused", 1_000, |case, answer| {
-        answer.refusal == 8 && room(case) == 0
+        answer.refusal == 8 && lists_of(case).room() == 0
     }),
     step("result columns too short by one", 1_000, |case, answer| {
-        answer.refusal == 8 && room(case) + 1 == answer.place
+        answer.refusal == 8 && lists_of(case).room() + 1 == answer.place
     }),
     step("result columns exactly filled", 1_000, |case, answer| {
-        answer.refusal == 0 && answer.first > 0 && answer.first == room(case)
+        answer.refusal == 0 && answer.first > 0 && answer.first == lists_of(case).room()
     }),
     step("result columns with room to spare", 1_000, |case, answer| {
-        answer.refusal == 0 && answer.first > 0 && answer.first < room(case)
+        answer.refusal == 0 && answer.first > 0 && answer.first < lists_of(case).room()
     }),
     step("result columns of unequal length", 1_000, |case, _| {
-        step_of(case).out_role.len() != step_of(case).out_row.len()
+        lists_of(case).out_role.len() != lists_of(case).out_row.len()
     }),
     step("more than 100,000 results", 30, |_, answer| answer.first.max(answer.place) > 100_000),
 ];
@@ -121,16 +121,8 @@ static EDITS: [Note; 6] = [
     }),
 ];
 
-fn step_of(case: &Case) -> &Step {
-    match &case.call {
-        Call::Step(step) => step,
-        _ => unreachable!("this part poses only steps"),
-    }
-}
-
-/// How many results there is room for.
-fn room(case: &Case) -> usize {
-    step_of(case).out_role.len().min(step_of(case).out_row.len())
+fn lists_of(case: &Case) -> &Lists {
+    case.lists().expect("this part poses only calls with a list of pairs")
 }
 
 fn piece_rows(case: &Case) -> usize {

@@ -19,11 +19,11 @@ impl Engine for Library {
             Call::Find { wanted } => boundary::find(lend!(Table, table, count), *wanted),
             Call::Step(step) => boundary::step(
                 lend!(Table, table, count),
-                Pairs { role: &step.role, row: &step.row },
+                Pairs { role: &step.lists.role, row: &step.lists.row },
                 step.axis,
                 step.test,
                 step.test_name,
-                Results { role: &mut step.out_role, row: &mut step.out_row },
+                Results { role: &mut step.lists.out_role, row: &mut step.lists.out_row },
             ),
             Call::Insert(insert) => boundary::insert(
                 &mut lend_mut!(TableMut, table, count),

@@ -1,11 +1,8 @@
 //! The stated steps: M1 to M8, and the steps among the other stated cases.
 
-use super::farm;
-use crate::case::{Answer, Call, Case, Columns, Step};
+use super::{farm, farm_lists};
+use crate::case::{Answer, Call, Case, Columns, Lists, Step};
 use crate::judge::{Difference, Judge};
-
-/// What the places of result columns hold before a call.
-const UNWRITTEN: usize = 77;
 
 /// A step on the farm with the results and the kept count that are stated for it.
 struct Stated {
@@ -71,15 +68,7 @@ const STATED: [Stated; 7] = [
 
 /// The farm's pairs, with result columns of so many places.
 fn farm_step(axis: usize, test: usize, test_name: usize, room: usize) -> Step {
-    Step {
-        role: vec![5, 5, 7],
-        row: vec![1, 2, 6],
-        axis,
-        test,
-        test_name,
-        out_role: vec![UNWRITTEN; room],
-        out_row: vec![UNWRITTEN; room],
-    }
+    Step { lists: farm_lists(room), axis, test, test_name }
 }
 
 fn on_farm(step: Step) -> Case {
@@ -92,10 +81,7 @@ pub fn run(judge: &mut Judge<'_>) -> Result<(), Difference> {
         for room in [results.len(), results.len() + 1, 20] {
             let case = on_farm(farm_step(axis, test, test_name, room));
             let mut after = farm_step(axis, test, test_name, room);
-            for (place, &(role, row)) in results.iter().enumerate() {
-                after.out_role[place] = role;
-                after.out_row[place] = row;
-            }
+            after.lists.write(results);
             let answer = Answer { first: results.len(), second: kept, ..Answer::default() };
             judge.pose_stated(name, case, answer, on_farm(after))?;
         }
@@ -123,10 +109,12 @@ fn refused(
 
 /// Row 9 in a pair is accepted, row 10 is refusal 5.
 fn pairs_at_the_end(judge: &mut Judge<'_>) -> Result<(), Difference> {
-    let with_row = |row: usize| Step { row: vec![1, 2, row], ..farm_step(2, 0, 0, 9) };
+    let with_row = |row: usize| Step {
+        lists: Lists { row: vec![1, 2, row], ..farm_lists(9) },
+        ..farm_step(2, 0, 0, 9)
+    };
     let mut after = with_row(9);
-    after.out_role[..3].copy_from_slice(&[5, 5, 5]);
-    after.out_row[..3].copy_from_slice(&[2, 3, 4]);
+    after.lists.write(&[(5, 2), (5, 3), (5, 4)]);
     let answer = Answer { first: 3, second: 3, ..Answer::default() };
     judge.pose_stated("row 9 in a pair", on_farm(with_row(9)), answer, on_farm(after))?;
     refused(judge, "row 10 in a pair", with_row(10), Answer::refused(5, 2))
@@ -136,7 +124,8 @@ fn pairs_at_the_end(judge: &mut Judge<'_>) -> Result<(), Difference> {
 fn no_pairs(judge: &mut Judge<'_>) -> Result<(), Difference> {
     for axis in 1..=11 {
         for room in [0, 5] {
-            let step = Step { role: vec![], row: vec![], ..farm_step(axis, 0, 0, room) };
+            let lists = Lists { role: vec![], row: vec![], ..farm_lists(room) };
+            let step = Step { lists, ..farm_step(axis, 0, 0, room) };
             refused(judge, "no pairs", step, Answer::default())?;
         }
     }
@@ -151,7 +140,8 @@ fn most_results(judge: &mut Judge<'_>) -> Result<(), Difference> {
     size[0] = rows - 1;
     let key = (1..=rows).collect();
     let table = Columns { key, size, level, kind: vec![1; rows], name: vec![1; rows] };
-    let pairs = Step { role: (0..rows).collect(), row: vec![0; rows], ..farm_step(4, 0, 0, 3) };
-    let case = Case { table, count: rows, call: Call::Step(pairs) };
+    let lists = Lists { role: (0..rows).collect(), row: vec![0; rows], ..farm_lists(3) };
+    let step = Step { lists, ..farm_step(4, 0, 0, 3) };
+    let case = Case { table, count: rows, call: Call::Step(step) };
     judge.pose_stated("the most results", case.clone(), Answer::refused(8, 16_777_216), case)
 }
