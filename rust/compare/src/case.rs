@@ -81,7 +81,16 @@ pub struct Insert {
     pub piece_count: usize,
 }
 
-/// What is asked of a table.
+/// What a carry lends and asks. It has no table, so its case has empty columns, and the count of
+/// the case is the one before the edit.
+#[derive(Clone, Debug, Default, PartialEq, Eq)]
+pub struct Carry {
+    pub lists: Lists,
+    pub first: usize,
+    pub moved: i64,
+}
+
+/// What is asked of a table, or of a list of pairs.
 #[derive(Clone, Debug, PartialEq, Eq)]
 pub enum Call {
     Check,
@@ -90,6 +99,7 @@ pub enum Call {
     Insert(Insert),
     Delete { wanted: usize },
     Rename { wanted: usize, new_name: usize },
+    Carry(Carry),
 }
 
 /// A call, with the table it is about.
@@ -125,11 +135,19 @@ pub enum Entry {
     Insert,
     Delete,
     Rename,
+    Carry,
 }
 
 impl Entry {
-    pub const ALL: [Entry; 6] =
-        [Entry::Check, Entry::Find, Entry::Step, Entry::Insert, Entry::Delete, Entry::Rename];
+    pub const ALL: [Entry; 7] = [
+        Entry::Check,
+        Entry::Find,
+        Entry::Step,
+        Entry::Insert,
+        Entry::Delete,
+        Entry::Rename,
+        Entry::Carry,
+    ];
 
     pub fn name(self) -> &'static str {
         match self {
@@ -139,11 +157,16 @@ impl Entry {
             Entry::Insert => "insert",
             Entry::Delete => "delete",
             Entry::Rename => "rename",
+            Entry::Carry => "carry",
         }
     }
 }
 
 impl Case {
+    pub fn of_carry(old_count: usize, carry: Carry) -> Case {
+        Case { table: Columns::default(), count: old_count, call: Call::Carry(carry) }
+    }
+
     pub fn entry(&self) -> Entry {
         match self.call {
             Call::Check => Entry::Check,
@@ -152,13 +175,14 @@ impl Case {
             Call::Insert(_) => Entry::Insert,
             Call::Delete { .. } => Entry::Delete,
             Call::Rename { .. } => Entry::Rename,
+            Call::Carry(_) => Entry::Carry,
         }
     }
 
     /// The list of pairs and the result columns of a call that has them.
     pub fn lists(&self) -> Option<&Lists> {
         match &self.call {
-            Call::Step(step) => Some(&step.lists),
+            Call::Step(Step { lists, .. }) | Call::Carry(Carry { lists, .. }) => Some(lists),
             _ => None,
         }
     }
@@ -166,7 +190,7 @@ impl Case {
     /// The same, to be changed.
     pub fn lists_mut(&mut self) -> Option<&mut Lists> {
         match &mut self.call {
-            Call::Step(step) => Some(&mut step.lists),
+            Call::Step(Step { lists, .. }) | Call::Carry(Carry { lists, .. }) => Some(lists),
             _ => None,
         }
     }
@@ -175,7 +199,9 @@ impl Case {
     pub fn lent_mut(&mut self) -> Vec<&mut Vec<usize>> {
         let mut lent: Vec<_> = self.table.each_mut().into();
         match &mut self.call {
-            Call::Step(step) => lent.extend(step.lists.each_mut()),
+            Call::Step(Step { lists, .. }) | Call::Carry(Carry { lists, .. }) => {
+                lent.extend(lists.each_mut());
+            }
             Call::Insert(insert) => lent.extend(insert.piece.each_mut()),
             Call::Check | Call::Find { .. } | Call::Delete { .. } | Call::Rename { .. } => {}
         }
@@ -186,7 +212,9 @@ impl Case {
     pub fn lent(&self) -> Vec<(String, &[usize])> {
         let mut lent = named("", COLUMN_NAMES, self.table.each());
         match &self.call {
-            Call::Step(step) => lent.extend(named("", LIST_NAMES, step.lists.each())),
+            Call::Step(Step { lists, .. }) | Call::Carry(Carry { lists, .. }) => {
+                lent.extend(named("", LIST_NAMES, lists.each()));
+            }
             Call::Insert(insert) => {
                 lent.extend(named("piece_", COLUMN_NAMES, insert.piece.each()));
             }
@@ -226,6 +254,9 @@ impl fmt::Display for Case {
             }
             Call::Rename { wanted, new_name } => {
                 writeln!(out, "let (wanted, new_name) = ({wanted}, {new_name});")?;
+            }
+            Call::Carry(Carry { first, moved, .. }) => {
+                writeln!(out, "let (first, moved) = ({first}, {moved});")?;
             }
         }
         writeln!(out, "// {}", self.entry().name())

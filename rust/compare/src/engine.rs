@@ -52,6 +52,20 @@ macro_rules! lend_mut {
     };
 }
 
+/// Pairs of another package.
+macro_rules! lend_pairs {
+    ($pairs:ident, $lists:expr) => {
+        $pairs { role: &$lists.role, row: &$lists.row }
+    };
+}
+
+/// Result columns of another package.
+macro_rules! lend_results {
+    ($results:ident, $lists:expr) => {
+        $results { role: &mut $lists.out_role, row: &mut $lists.out_row }
+    };
+}
+
 /// A program whose package has the same functions over types of its own.
 macro_rules! engine {
     ($(#[$words:meta])* $program:ident, $package:ident) => {
@@ -72,9 +86,9 @@ macro_rules! engine {
                     Call::Find { wanted } => $package::find(&lend!(Table, table, count), *wanted),
                     Call::Step(step) => $package::step(
                         &lend!(Table, table, count),
-                        &Pairs { role: &step.lists.role, row: &step.lists.row },
+                        &lend_pairs!(Pairs, step.lists),
                         Question { axis: step.axis, test: step.test, test_name: step.test_name },
-                        &mut Results { role: &mut step.lists.out_role, row: &mut step.lists.out_row },
+                        &mut lend_results!(Results, step.lists),
                     ),
                     Call::Insert(insert) => $package::insert(
                         &mut lend_mut!(TableMut, table, count),
@@ -85,6 +99,13 @@ macro_rules! engine {
                         $package::delete(&mut lend_mut!(TableMut, table, count), *wanted),
                     Call::Rename { wanted, new_name } =>
                         $package::rename(&mut lend_mut!(TableMut, table, count), *wanted, *new_name),
+                    Call::Carry(carry) => $package::carry(
+                        &lend_pairs!(Pairs, carry.lists),
+                        count,
+                        carry.first,
+                        carry.moved,
+                        &mut lend_results!(Results, carry.lists),
+                    ),
                 })
             }
         }

@@ -1,5 +1,6 @@
 //! The cases that the rules state for the small farm, with the numbers that they state.
 
+mod carries;
 mod edits;
 mod steps;
 
@@ -35,7 +36,8 @@ fn farm_lists(room: usize) -> Lists {
 pub fn run(judge: &mut Judge<'_>) -> Result<(), Difference> {
     checks(judge)?;
     steps::run(judge)?;
-    edits::run(judge)
+    edits::run(judge)?;
+    carries::run(judge)
 }
 
 /// The farm is sound, its keys are found, and level 63 is accepted, 64 refused.

@@ -20,6 +20,15 @@ pub fn pose_twice(
     judge.pose(with_room(random, case, results)).map(drop)
 }
 
+/// How many pairs a small table gets: some, now and then a long list of them.
+pub fn few_pairs(random: &mut Random) -> usize {
+    match random.below(1_000) {
+        0..=2 => random.within(4_090, 4_100),
+        3..=9 => random.within(13, 200),
+        _ => random.within(0, 12),
+    }
+}
+
 /// Up to so many pairs of up to so many roles, now and then bad ones, and no room yet.
 pub fn some_pairs(random: &mut Random, pairs: usize, roles: usize, rows: usize) -> Lists {
     let (role, row) = ascending_pairs(random, pairs, roles, rows);

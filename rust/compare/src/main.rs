@@ -5,6 +5,7 @@
 #![forbid(unsafe_code)]
 #![allow(missing_docs)]
 
+mod carries;
 mod case;
 mod checks;
 mod commute;
@@ -31,10 +32,11 @@ use std::time::Instant;
 use tally::Tally;
 
 /// The random parts of a run: how many items the default run has, and how many calls an item.
-const PARTS: [(Part, u64, u64); 4] = [
+const PARTS: [(Part, u64, u64); 5] = [
     (Part::Check, checks::CALLS, 1),
     (Part::Step, steps::CALLS, 1),
     (Part::Edit, edits::CALLS, 1),
+    (Part::Carry, carries::CALLS, 1),
     (Part::Commute, commute::PAIRS, 8),
 ];
 
@@ -93,6 +95,7 @@ fn run_part(part: Part, engine: &dyn Engine, seed: u64, items: u64) -> Result<Ta
         Part::Check => checks::run(&mut judge, seed, items),
         Part::Step => steps::run(&mut judge, seed, items),
         Part::Edit => edits::run(&mut judge, seed, items),
+        Part::Carry => carries::run(&mut judge, seed, items),
         Part::Commute => commute::run(&mut judge, seed, items),
     };
     outcome.map_err(|Difference(told)| told)?;

@@ -1,37 +1,53 @@
 //! What must come up in a run beside the refusals, so that a generator that drifts is noticed.
 
-use crate::case::{Answer, Call, Case, Lists};
+use crate::case::{Answer, Call, Carry, Case, Lists};
 use crate::options::Part;
 
 const MOST_ROWS: usize = 4_096;
 const MOST_PAIRS: usize = 4_096;
 
-/// Something that a part of the default run must pose at least so many times.
+/// Something that some parts of the default run must each pose at least so many times.
 pub struct Note {
-    pub part: Part,
+    parts: &'static [Part],
     pub what: &'static str,
     pub least: u64,
-    pub holds: fn(&Case, Answer) -> bool,
+    pub holds: Holds,
+}
+
+type Holds = fn(&Case, Answer) -> bool;
+
+impl Note {
+    pub fn belongs_to(&self, part: Part) -> bool {
+        self.parts.contains(&part)
+    }
 }
 
 /// All notes, in the order of the parts.
 pub fn all() -> impl Iterator<Item = &'static Note> {
-    CHECKS.iter().chain(&STEPS).chain(&EDITS)
+    CHECKS.iter().chain(&LISTS).chain(&STEPS).chain(&EDITS).chain(&CARRIES)
 }
 
 /// How many notes there are.
-pub const COUNT: usize = CHECKS.len() + STEPS.len() + EDITS.len();
+pub const COUNT: usize = CHECKS.len() + LISTS.len() + STEPS.len() + EDITS.len() + CARRIES.len();
 
-const fn check(what: &'static str, least: u64, holds: fn(&Case, Answer) -> bool) -> Note {
-    Note { part: Part::Check, what, least, holds }
+const fn check(what: &'static str, least: u64, holds: Holds) -> Note {
+    Note { parts: &[Part::Check], what, least, holds }
 }
 
-const fn step(what: &'static str, least: u64, holds: fn(&Case, Answer) -> bool) -> Note {
-    Note { part: Part::Step, what, least, holds }
+const fn list(what: &'static str, least: u64, holds: Holds) -> Note {
+    Note { parts: &[Part::Step, Part::Carry], what, least, holds }
 }
 
-const fn edit(what: &'static str, least: u64, holds: fn(&Case, Answer) -> bool) -> Note {
-    Note { part: Part::Edit, what, least, holds }
+const fn step(what: &'static str, least: u64, holds: Holds) -> Note {
+    Note { parts: &[Part::Step], what, least, holds }
+}
+
+const fn edit(what: &'static str, least: u64, holds: Holds) -> Note {
+    Note { parts: &[Part::Edit], what, least, holds }
+}
+
+const fn carry(what: &'static str, least: u64, holds: Holds) -> Note {
+    Note { parts: &[Part::Carry], what, least, holds }
 }
 
 static CHECKS: [Note; 10] = [
@@ -65,37 +81,41 @@ static CHECKS: [Note; 10] = [
     }),
 ];
 
-static STEPS: [Note; 11] = [
-    step("no pairs, accepted", 1_000, |case, answer| {
+/// Lists of pairs and room for results, in steps and in carries.
+static LISTS: [Note; 9] = [
+    list("no pairs, accepted", 1_000, |case, answer| {
         answer.refusal == 0 && lists_of(case).row.is_empty()
     }),
-    step("4,096 pairs, accepted", 50, |case, answer| {
+    list("4,096 pairs, accepted", 50, |case, answer| {
         answer.refusal == 0 && lists_of(case).row.len() == MOST_PAIRS
     }),
-    step("too many pairs in columns of equal length", 50, |case, answer| {
+    list("too many pairs in columns of equal length", 50, |case, answer| {
         answer.refusal == 3 && lists_of(case).row.len() == lists_of(case).role.len()
     }),
-    step("more than 1,000 roles, accepted", 50, |case, answer| {
-        answer.refusal == 0 && lists_of(case).role.chunk_by(usize::eq).count() > 1_000
-    }),
-    step("equal pairs, accepted", 1_000, |case, answer| {
+    list("equal pairs, accepted", 1_000, |case, answer| {
         let pairs = |place: usize| (lists_of(case).role[place], lists_of(case).row[place]);
         answer.refusal == 0 && (1..lists_of(case).row.len()).any(|at| pairs(at) == pairs(at - 1))
     }),
-    step("empty result columns, refused", 1_000, |case, answer| {
+    list("empty result columns, refused", 1_000, |case, answer| {
         answer.refusal == 8 && lists_of(case).room() == 0
     }),
-    step("result columns too short by one", 1_000, |case, answer| {
+    list("result columns too short by one", 1_000, |case, answer| {
         answer.refusal == 8 && lists_of(case).room() + 1 == answer.place
     }),
-    step("result columns exactly filled", 1_000, |case, answer| {
+    list("result columns exactly filled", 1_000, |case, answer| {
         answer.refusal == 0 && answer.first > 0 && answer.first == lists_of(case).room()
     }),
-    step("result columns with room to spare", 1_000, |case, answer| {
+    list("result columns with room to spare", 1_000, |case, answer| {
         answer.refusal == 0 && answer.first > 0 && answer.first < lists_of(case).room()
     }),
-    step("result columns of unequal length", 1_000, |case, _| {
+    list("result columns of unequal length", 1_000, |case, _| {
         lists_of(case).out_role.len() != lists_of(case).out_row.len()
+    }),
+];
+
+static STEPS: [Note; 2] = [
+    step("more than 1,000 roles, accepted", 50, |case, answer| {
+        answer.refusal == 0 && lists_of(case).role.chunk_by(usize::eq).count() > 1_000
     }),
     step("more than 100,000 results", 30, |_, answer| answer.first.max(answer.place) > 100_000),
 ];
@@ -121,8 +141,79 @@ static EDITS: [Note; 6] = [
     }),
 ];
 
+static CARRIES: [Note; 18] = [
+    carry("old count 0", 1_000, |case, _| case.count == 0),
+    carry("old count 4,097", 1_000, |case, _| case.count == MOST_ROWS + 1),
+    carry("old count 4,096, accepted", 50, |case, answer| {
+        answer.refusal == 0 && case.count == MOST_ROWS
+    }),
+    carry("first moved row 0", 1_000, |case, answer| {
+        answer.refusal == 17 && carry_of(case).first == 0
+    }),
+    carry("first moved row one above the old count", 1_000, |case, answer| {
+        answer.refusal == 17 && carry_of(case).first == case.count + 1
+    }),
+    carry("the largest first moved row", 1_000, |case, answer| {
+        answer.refusal == 17 && carry_of(case).first == usize::MAX
+    }),
+    carry("first moved row the old count, accepted", 1_000, |case, answer| {
+        answer.refusal == 0 && carry_of(case).first == case.count
+    }),
+    carry("first moved row comes to row 0", 1_000, |case, answer| {
+        answer.refusal == 17 && comes_to(case) == 0
+    }),
+    carry("first moved row comes to row 1, accepted", 1_000, |case, answer| {
+        answer.refusal == 0 && comes_to(case) == 1
+    }),
+    carry("new count 1, accepted", 1_000, |case, answer| {
+        answer.refusal == 0 && new_count(case) == 1
+    }),
+    carry("new count 4,096, accepted", 1_000, |case, answer| {
+        answer.refusal == 0 && new_count(case) == MOST_ROWS as i128
+    }),
+    carry("new count 4,097", 1_000, |case, answer| {
+        answer.refusal == 17 && new_count(case) == MOST_ROWS as i128 + 1
+    }),
+    carry("the least move there is", 500, |case, answer| {
+        answer.refusal == 17 && carry_of(case).moved == i64::MIN
+    }),
+    carry("the largest move there is", 500, |case, answer| {
+        answer.refusal == 17 && carry_of(case).moved == i64::MAX
+    }),
+    carry("a bad move, and too little room as well", 1_000, |case, answer| {
+        answer.refusal == 17 && lists_of(case).room() == 0 && !lists_of(case).row.is_empty()
+    }),
+    carry("a bad move of no pairs", 1_000, |case, answer| {
+        answer.refusal == 17 && lists_of(case).row.is_empty()
+    }),
+    carry("some pairs dropped, some moved", 1_000, |case, answer| {
+        let Carry { lists, first, .. } = carry_of(case);
+        let moved = lists.row.iter().filter(|&row| row >= first).count();
+        moved > 0 && answer.first >= moved && answer.first < lists.row.len()
+    }),
+    carry("all pairs dropped", 1_000, |case, answer| {
+        answer == Answer::default() && !lists_of(case).row.is_empty()
+    }),
+];
+
 fn lists_of(case: &Case) -> &Lists {
     case.lists().expect("this part poses only calls with a list of pairs")
+}
+
+fn carry_of(case: &Case) -> &Carry {
+    match &case.call {
+        Call::Carry(carry) => carry,
+        _ => unreachable!("this part poses only carries"),
+    }
+}
+
+/// Where the first moved row comes to.
+fn comes_to(case: &Case) -> i128 {
+    carry_of(case).first as i128 + i128::from(carry_of(case).moved)
+}
+
+fn new_count(case: &Case) -> i128 {
+    case.count as i128 + i128::from(carry_of(case).moved)
 }
 
 fn piece_rows(case: &Case) -> usize {

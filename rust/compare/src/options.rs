@@ -9,6 +9,7 @@ pub enum Part {
     Check,
     Step,
     Edit,
+    Carry,
     /// Two edits in both orders.
     Commute,
 }
@@ -23,7 +24,7 @@ pub struct Options {
 }
 
 const USAGE: &str = "usage: compare [--engine library|plain|piped:COMMAND] [--seed N] [--calls N] \
-                     [--only check|find|step|edit|commute]";
+                     [--only check|find|step|edit|carry|commute]";
 
 impl Options {
     /// Reads the words of the command line.
@@ -54,6 +55,7 @@ fn part(word: &str) -> Result<Part, String> {
         "check" | "find" => Ok(Part::Check),
         "step" => Ok(Part::Step),
         "edit" => Ok(Part::Edit),
+        "carry" => Ok(Part::Carry),
         "commute" => Ok(Part::Commute),
         _ => Err(USAGE.to_string()),
     }

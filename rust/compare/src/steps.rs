@@ -3,7 +3,7 @@
 use crate::case::{Call, Case, Columns, Step};
 use crate::damage::spoil;
 use crate::judge::{Difference, Judge};
-use crate::lists::{lend_some_room, pose_twice, some_pairs};
+use crate::lists::{few_pairs, lend_some_room, pose_twice, some_pairs};
 use crate::random::Random;
 use crate::series::{self, Series};
 use crate::tables::{add_spare_rows, sound};
@@ -22,16 +22,12 @@ pub fn run(judge: &mut Judge<'_>, seed: u64, calls: u64) -> Result<(), Differenc
     series::run("step", seed, &all, |random, case| pose_twice(judge, random, case))
 }
 
-/// A table of 1 to 12 rows with some pairs, now and then a long list of them.
+/// A table of 1 to 12 rows with some pairs.
 fn small(random: &mut Random) -> Case {
     let rows = random.within(1, 12);
     let mut table = sound(random, rows, 12);
     add_spare_rows(random, &mut table, 3);
-    let pairs = match random.below(1_000) {
-        0..=2 => random.within(4_090, 4_100),
-        3..=9 => random.within(13, 200),
-        _ => random.within(0, 12),
-    };
+    let pairs = few_pairs(random);
     let roles = random.within(1, 4);
     finished(random, table, rows, pairs, roles)
 }

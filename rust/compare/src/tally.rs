@@ -4,8 +4,8 @@ use crate::case::{Answer, Call, Case, Entry};
 use crate::notes;
 use crate::options::Part;
 
-/// Refusals 1 to 16; number 0 is an accepted call.
-const NUMBERS: usize = 17;
+/// Refusals 1 to 17; number 0 is an accepted call.
+const NUMBERS: usize = 18;
 const AXES: usize = 11;
 const TESTS: usize = 8;
 
@@ -42,7 +42,7 @@ impl Tally {
             self.steps[step.axis - 1][step.test] += 1;
         }
         for (times, note) in self.notes.iter_mut().zip(notes::all()) {
-            *times += u64::from(note.part == self.part && (note.holds)(case, answer));
+            *times += u64::from(note.belongs_to(self.part) && (note.holds)(case, answer));
         }
     }
 
@@ -67,13 +67,14 @@ impl Tally {
             Part::Check => &[1, 2, 9],
             Part::Step => &[1, 2, 3, 4, 5, 6, 7, 8],
             Part::Edit => &[1, 2, 9, 10, 11, 12, 13, 14, 15, 16],
+            Part::Carry => &[1, 3, 4, 5, 8, 17],
             Part::Farm | Part::Commute => &[],
         };
         for &number in refusals {
             at_least(&format!("refusal {number}"), self.refusals(number), LEAST_REFUSALS)?;
         }
         for (times, note) in self.notes.iter().zip(notes::all()) {
-            if note.part == self.part {
+            if note.belongs_to(self.part) {
                 at_least(note.what, *times, note.least)?;
             }
         }
@@ -95,7 +96,7 @@ impl Tally {
     /// What the part must have posed, and how often it did.
     pub fn print_notes(&self) {
         for (times, note) in self.notes.iter().zip(notes::all()) {
-            if note.part == self.part {
+            if note.belongs_to(self.part) {
                 println!("{times:>12}  {}", note.what);
             }
         }

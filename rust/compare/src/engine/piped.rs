@@ -86,7 +86,7 @@ impl Pipe {
     }
 }
 
-/// What a call passes beside columns and the table's count.
+/// What a call passes beside columns and the count; a signed number as its bits.
 fn arguments(call: &Call) -> [usize; 3] {
     match call {
         Call::Check => [0, 0, 0],
@@ -94,5 +94,6 @@ fn arguments(call: &Call) -> [usize; 3] {
         Call::Step(step) => [step.axis, step.test, step.test_name],
         Call::Insert(insert) => [insert.parent, insert.piece_count, 0],
         Call::Rename { wanted, new_name } => [*wanted, *new_name, 0],
+        Call::Carry(carry) => [carry.first, carry.moved as usize, 0],
     }
 }

@@ -19,11 +19,11 @@ impl Engine for Library {
             Call::Find { wanted } => boundary::find(lend!(Table, table, count), *wanted),
             Call::Step(step) => boundary::step(
                 lend!(Table, table, count),
-                Pairs { role: &step.lists.role, row: &step.lists.row },
+                lend_pairs!(Pairs, step.lists),
                 step.axis,
                 step.test,
                 step.test_name,
-                Results { role: &mut step.lists.out_role, row: &mut step.lists.out_row },
+                lend_results!(Results, step.lists),
             ),
             Call::Insert(insert) => boundary::insert(
                 &mut lend_mut!(TableMut, table, count),
@@ -34,6 +34,13 @@ impl Engine for Library {
                 boundary::delete(&mut lend_mut!(TableMut, table, count), *wanted),
             Call::Rename { wanted, new_name } =>
                 boundary::rename(&mut lend_mut!(TableMut, table, count), *wanted, *new_name),
+            Call::Carry(carry) => boundary::carry(
+                lend_pairs!(Pairs, carry.lists),
+                count,
+                carry.first,
+                carry.moved,
+                lend_results!(Results, carry.lists),
+            ),
         })
     }
 }
