@@ -55,6 +55,12 @@ impl Lists {
         self.out_role.len().min(self.out_row.len())
     }
 
+    /// The first so many results as a list of pairs, without room for further results.
+    pub fn results(&self, length: usize) -> Lists {
+        let [role, row] = [&self.out_role, &self.out_row].map(|column| column[..length].to_vec());
+        Lists { role, row, ..Lists::default() }
+    }
+
     /// Writes results that there is room for.
     pub fn write(&mut self, results: &[(usize, usize)]) {
         for (place, &(role, row)) in results.iter().enumerate() {

@@ -1,9 +1,11 @@
-//! Two edits in both orders: within the conditions of the rules both orders are accepted and
-//! give the same rows in use.
+//! Two edits in both orders: within the conditions of the rules both orders are accepted, give the
+//! same rows in use, and carry pairs to the same list.
 
-use crate::case::{Answer, Call, Case, Columns, Insert};
-use crate::edits::fresh_piece;
+use crate::case::{Call, Lists};
+use crate::edits::fitting_edit;
 use crate::judge::{Difference, Judge};
+use crate::kept::Kept;
+use crate::lists::ascending_pairs;
 use crate::progress::Progress;
 use crate::random::Random;
 use crate::tables::{lengthen, sound};
@@ -39,12 +41,6 @@ struct Pairs {
     outside: [Fate; 4],
 }
 
-/// A table as an accepted edit leaves it.
-struct Left {
-    table: Columns,
-    count: usize,
-}
-
 /// Poses pairs until there are so many within the conditions.
 pub fn run(judge: &mut Judge<'_>, seed: u64, pairs: u64) -> Result<(), Difference> {
     let mut seen = Pairs::default();
@@ -72,10 +68,9 @@ pub fn run(judge: &mut Judge<'_>, seed: u64, pairs: u64) -> Result<(), Differenc
     Ok(())
 }
 
-/// Two edits of one table.
+/// Two edits of one table, for which pairs are kept.
 struct Pair {
-    table: Columns,
-    count: usize,
+    start: Kept,
     edits: [Call; 2],
 }
 
@@ -83,30 +78,34 @@ impl Pair {
     /// Two edits that are mostly within the conditions.
     fn any(random: &mut Random, rows: usize) -> Pair {
         let table = sound(random, rows, 12);
-        let mut pair = Pair { table, count: rows, edits: [Call::Check, Call::Check] };
+        let start = Kept { table, count: rows, lists: Lists::default() };
+        let mut pair = Pair { start, edits: [Call::Check, Call::Check] };
         let named = pair.two_rows(random);
-        pair.edits = named.map(|row| fitting_edit(random, &pair.table, row));
+        pair.edits = named.map(|row| fitting_edit(random, &pair.start.table, row));
         if random.chance(10) {
             share_a_key(&mut pair.edits);
         }
         // Just enough room for the one or the other, or more of it.
         let room = random.pick(&[0, 1, 3, 5, 10, 10, 10, 10]);
-        for column in pair.table.each_mut() {
+        for column in pair.start.table.each_mut() {
             let spare = room + random.within(0, 2);
             lengthen(random, column, spare);
         }
+        let lists = &mut pair.start.lists;
+        (lists.role, lists.row) = ascending_pairs(random, 8, 3, rows);
         pair
     }
 
     /// Two rows, mostly apart from each other.
     fn two_rows(&self, random: &mut Random) -> [usize; 2] {
-        let mut rows = [random.below(self.count), random.below(self.count)];
+        let count = self.start.count;
+        let mut rows = [random.below(count), random.below(count)];
         for _ in 0..random.pick(&[0, 10, 10, 10]) {
             let [one, other] = rows;
             if one != other && !self.is_ancestor(one, other) && !self.is_ancestor(other, one) {
                 break;
             }
-            rows = [random.below(self.count), random.below(self.count)];
+            rows = [random.below(count), random.below(count)];
         }
         rows
     }
@@ -114,16 +113,15 @@ impl Pair {
     /// Poses each edit by itself and, if both are accepted, both orders. Says whether the pair
     /// lies within the conditions.
     fn pose(&self, judge: &mut Judge<'_>, seen: &mut Pairs) -> Result<bool, Difference> {
-        let start = Left { table: self.table.clone(), count: self.count };
         let [one, other] = &self.edits;
         let (Some(after_one), Some(after_other)) =
-            (edited(judge, &start, one)?, edited(judge, &start, other)?)
+            (self.start.after(judge, one)?, self.start.after(judge, other)?)
         else {
             return Ok(false);
         };
-        let orders = (edited(judge, &after_one, other)?, edited(judge, &after_other, one)?);
+        let orders = (after_one.after(judge, other)?, after_other.after(judge, one)?);
         let same = match &orders {
-            (Some(left), Some(right)) => Some(same_rows_in_use(left, right)),
+            (Some(left), Some(right)) => Some(same_in_use(left, right)),
             _ => None,
         };
         match (self.outside(), same) {
@@ -151,7 +149,7 @@ impl Pair {
             Some(Outside::OneAboveOther)
         } else if pieces[0].iter().any(|key| pieces[1].contains(key)) {
             Some(Outside::KeyInBoth)
-        } else if added > 0 && self.count + added > self.table.shortest().min(4_096) {
+        } else if added > 0 && self.start.count + added > self.start.table.shortest().min(4_096) {
             Some(Outside::NoRoomForBoth)
         } else {
             None
@@ -164,13 +162,13 @@ impl Pair {
             Call::Delete { wanted } | Call::Rename { wanted, .. } => *wanted,
             _ => unreachable!("only edits are paired"),
         };
-        let keys = &self.table.key[..self.count];
+        let keys = &self.start.table.key[..self.start.count];
         keys.iter().position(|&key| key == wanted).expect("the edit was accepted")
     }
 
     /// By parents: the nearest earlier row whose level is one less.
     fn is_ancestor(&self, upper: usize, mut row: usize) -> bool {
-        let level = &self.table.level;
+        let level = &self.start.table.level;
         while let Some(parent) = (0..row).rev().find(|&up| level[up] + 1 == level[row]) {
             if parent == upper {
                 return true;
@@ -181,25 +179,19 @@ impl Pair {
     }
 
     fn tell(&self, what: &str) -> Difference {
-        let [one, other] = self.edits.each_ref().map(|edit| Case {
-            table: self.table.clone(),
-            count: self.count,
-            call: edit.clone(),
-        });
-        Difference(format!("two edits: {what}\nthe first\n{one}\nthe second\n{other}"))
+        let [one, other] = self.edits.each_ref().map(|edit| self.start.asks(edit.clone()));
+        let pairs = &self.start.lists;
+        Difference(format!(
+            "two edits: {what}\nthe pairs {pairs:?}\nthe first\n{one}\nthe second\n{other}"
+        ))
     }
 }
 
-/// The table after the edit, if it is accepted.
-fn edited(judge: &mut Judge<'_>, from: &Left, edit: &Call) -> Result<Option<Left>, Difference> {
-    let case = Case { table: from.table.clone(), count: from.count, call: edit.clone() };
-    let (Answer { refusal, first, .. }, case) = judge.pose(case)?;
-    Ok((refusal == 0).then_some(Left { table: case.table, count: first }))
-}
-
-fn same_rows_in_use(left: &Left, right: &Left) -> bool {
+/// Whether both have the same rows in use and the same pairs.
+fn same_in_use(left: &Kept, right: &Kept) -> bool {
     let mut columns = left.table.each().into_iter().zip(right.table.each());
-    left.count == right.count
+    left.lists == right.lists
+        && left.count == right.count
         && columns.all(|(left_column, right_column)| {
             left_column[..left.count] == right_column[..left.count]
         })
@@ -209,21 +201,6 @@ fn piece_keys(edit: &Call) -> &[usize] {
     match edit {
         Call::Insert(insert) => &insert.piece.key[..insert.piece_count],
         _ => &[],
-    }
-}
-
-/// An edit that the row's kind allows.
-fn fitting_edit(random: &mut Random, table: &Columns, row: usize) -> Call {
-    let key = table.key[row];
-    let delete = Call::Delete { wanted: key };
-    let rename = Call::Rename { wanted: key, new_name: random.within(1, 5) };
-    let piece_count = random.within(1, 5);
-    let piece = fresh_piece(random, piece_count);
-    let insert = Call::Insert(Insert { parent: key, piece, piece_count });
-    match (table.kind[row], random.below(4)) {
-        (0, _) | (1, 0 | 1) => insert,
-        (1 | 4, 2) => rename,
-        _ => delete,
     }
 }
 

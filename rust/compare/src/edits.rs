@@ -114,8 +114,23 @@ fn insertion(random: &mut Random, parent: usize, table: &Columns, most_piece: us
     Insert { parent, piece, piece_count }
 }
 
+/// An edit that the row's kind allows.
+pub fn fitting_edit(random: &mut Random, table: &Columns, row: usize) -> Call {
+    let key = table.key[row];
+    let delete = Call::Delete { wanted: key };
+    let rename = Call::Rename { wanted: key, new_name: random.within(1, 5) };
+    let piece_count = random.within(1, 5);
+    let piece = fresh_piece(random, piece_count);
+    let insert = Call::Insert(Insert { parent: key, piece, piece_count });
+    match (table.kind[row], random.below(4)) {
+        (0, _) | (1, 0 | 1) => insert,
+        (1 | 4, 2) => rename,
+        _ => delete,
+    }
+}
+
 /// A sound piece that starts with no document and whose keys no table here has.
-pub fn fresh_piece(random: &mut Random, rows: usize) -> Columns {
+fn fresh_piece(random: &mut Random, rows: usize) -> Columns {
     let mut piece = sound(random, rows, 63);
     if piece.kind[0] == 0 {
         piece.kind[0] = 1;

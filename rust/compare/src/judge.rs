@@ -61,7 +61,8 @@ impl<'a> Judge<'a> {
         Ok(())
     }
 
-    fn tell(&self, case: &Case, what: &str) -> Difference {
+    /// Says what is wrong with an answer, and the input.
+    pub fn tell(&self, case: &Case, what: &str) -> Difference {
         Difference(format!("{} differs: {what}\non this input:\n{case}", self.engine.name()))
     }
 }

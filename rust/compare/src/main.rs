@@ -8,12 +8,14 @@
 mod carries;
 mod case;
 mod checks;
+mod circles;
 mod commute;
 mod damage;
 mod edits;
 mod engine;
 mod farm;
 mod judge;
+mod kept;
 mod lists;
 mod notes;
 mod options;
@@ -32,12 +34,13 @@ use std::time::Instant;
 use tally::Tally;
 
 /// The random parts of a run: how many items the default run has, and how many calls an item.
-const PARTS: [(Part, u64, u64); 5] = [
+const PARTS: [(Part, u64, u64); 6] = [
     (Part::Check, checks::CALLS, 1),
     (Part::Step, steps::CALLS, 1),
     (Part::Edit, edits::CALLS, 1),
     (Part::Carry, carries::CALLS, 1),
-    (Part::Commute, commute::PAIRS, 8),
+    (Part::Circle, circles::CIRCLES, 5),
+    (Part::Commute, commute::PAIRS, 14),
 ];
 
 fn main() -> ExitCode {
@@ -96,6 +99,7 @@ fn run_part(part: Part, engine: &dyn Engine, seed: u64, items: u64) -> Result<Ta
         Part::Step => steps::run(&mut judge, seed, items),
         Part::Edit => edits::run(&mut judge, seed, items),
         Part::Carry => carries::run(&mut judge, seed, items),
+        Part::Circle => circles::run(&mut judge, seed, items),
         Part::Commute => commute::run(&mut judge, seed, items),
     };
     outcome.map_err(|Difference(told)| told)?;

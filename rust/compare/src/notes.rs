@@ -1,6 +1,6 @@
 //! What must come up in a run beside the refusals, so that a generator that drifts is noticed.
 
-use crate::case::{Answer, Call, Carry, Case, Lists};
+use crate::case::{Answer, Call, Carry, Case, Lists, Step};
 use crate::options::Part;
 
 const MOST_ROWS: usize = 4_096;
@@ -24,11 +24,12 @@ impl Note {
 
 /// All notes, in the order of the parts.
 pub fn all() -> impl Iterator<Item = &'static Note> {
-    CHECKS.iter().chain(&LISTS).chain(&STEPS).chain(&EDITS).chain(&CARRIES)
+    CHECKS.iter().chain(&LISTS).chain(&STEPS).chain(&EDITS).chain(&CARRIES).chain(&CIRCLES)
 }
 
 /// How many notes there are.
-pub const COUNT: usize = CHECKS.len() + LISTS.len() + STEPS.len() + EDITS.len() + CARRIES.len();
+pub const COUNT: usize =
+    CHECKS.len() + LISTS.len() + STEPS.len() + EDITS.len() + CARRIES.len() + CIRCLES.len();
 
 const fn check(what: &'static str, least: u64, holds: Holds) -> Note {
     Note { parts: &[Part::Check], what, least, holds }
@@ -48,6 +49,10 @@ const fn edit(what: &'static str, least: u64, holds: Holds) -> Note {
 
 const fn carry(what: &'static str, least: u64, holds: Holds) -> Note {
     Note { parts: &[Part::Carry], what, least, holds }
+}
+
+const fn circle(what: &'static str, least: u64, holds: Holds) -> Note {
+    Note { parts: &[Part::Circle], what, least, holds }
 }
 
 static CHECKS: [Note; 10] = [
@@ -196,6 +201,36 @@ static CARRIES: [Note; 18] = [
     }),
 ];
 
+/// Carries over accepted edits, and the steps after them.
+static CIRCLES: [Note; 9] = [
+    circle("an insertion that moves a pair", 1_000, |case, _| {
+        carries(case, |carry| carry.moved > 0 && moves_a_pair(carry))
+    }),
+    circle("a deletion that moves a pair", 1_000, |case, _| {
+        carries(case, |carry| carry.moved < 0 && moves_a_pair(carry))
+    }),
+    circle("a deletion that drops a pair", 1_000, |case, answer| {
+        carries(case, |carry| answer.first < carry.lists.row.len())
+    }),
+    circle("a deletion that drops no pair", 1_000, |case, answer| {
+        carries(case, |carry| carry.moved < 0 && answer.first == carry.lists.row.len())
+    }),
+    circle("a rename", 1_000, |case, _| carries(case, |carry| carry.moved == 0)),
+    circle("an edit at the very end", 1_000, |case, _| {
+        carries(case, |carry| carry.moved != 0 && carry.first == case.count)
+    }),
+    circle("a pair on the first moved row", 1_000, |case, _| {
+        carries(case, |carry| carry.lists.row.contains(&carry.first))
+    }),
+    circle("a pair on the last deleted row", 1_000, |case, _| {
+        carries(case, |carry| carry.moved < 0 && carry.lists.row.contains(&(carry.first - 1)))
+    }),
+    circle("a step with carried pairs, accepted", 1_000, |case, answer| {
+        let steps = |step: &Step| answer.refusal == 0 && !step.lists.row.is_empty();
+        matches!(&case.call, Call::Step(step) if steps(step))
+    }),
+];
+
 fn lists_of(case: &Case) -> &Lists {
     case.lists().expect("this part poses only calls with a list of pairs")
 }
@@ -205,6 +240,15 @@ fn carry_of(case: &Case) -> &Carry {
         Call::Carry(carry) => carry,
         _ => unreachable!("this part poses only carries"),
     }
+}
+
+/// Whether the call is a carry of which this holds.
+fn carries(case: &Case, holds: impl Fn(&Carry) -> bool) -> bool {
+    matches!(&case.call, Call::Carry(carry) if holds(carry))
+}
+
+fn moves_a_pair(carry: &Carry) -> bool {
+    carry.lists.row.iter().any(|&row| row >= carry.first)
 }
 
 /// Where the first moved row comes to.

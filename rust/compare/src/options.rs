@@ -10,6 +10,8 @@ pub enum Part {
     Step,
     Edit,
     Carry,
+    /// An edit, a carry over it and a step with what is carried.
+    Circle,
     /// Two edits in both orders.
     Commute,
 }
@@ -24,7 +26,7 @@ pub struct Options {
 }
 
 const USAGE: &str = "usage: compare [--engine library|plain|piped:COMMAND] [--seed N] [--calls N] \
-                     [--only check|find|step|edit|carry|commute]";
+                     [--only check|find|step|edit|carry|circle|commute]";
 
 impl Options {
     /// Reads the words of the command line.
@@ -56,6 +58,7 @@ fn part(word: &str) -> Result<Part, String> {
         "step" => Ok(Part::Step),
         "edit" => Ok(Part::Edit),
         "carry" => Ok(Part::Carry),
+        "circle" => Ok(Part::Circle),
         "commute" => Ok(Part::Commute),
         _ => Err(USAGE.to_string()),
     }
