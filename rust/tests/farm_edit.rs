@@ -1,28 +1,9 @@
 //! The stated edits of the small farm through the safe wrapper.
 
-use reach::{farm, Edited, Refusal, Table, TableMut};
+mod room;
 
-/// The farm in columns of eleven rows.
-struct Farm {
-    columns: [[usize; 11]; 5],
-}
-
-impl Farm {
-    fn new() -> Farm {
-        let columns = [farm::KEY, farm::SIZE, farm::LEVEL, farm::KIND, farm::NAME];
-        let longer =
-            |column: [usize; 10]| std::array::from_fn(|row| *column.get(row).unwrap_or(&77));
-        Farm { columns: columns.map(longer) }
-    }
-
-    fn lent(&mut self) -> TableMut<'_> {
-        let [key, size, level, kind, name] = &mut self.columns;
-        TableMut { key, size, level, kind, name, count: 10 }
-    }
-}
-
-const SETPOINT: Table<'static> =
-    Table { key: &[50], size: &[0], level: &[0], kind: &[1], name: &[4], count: 1 };
+use reach::{Edited, Refusal, Table};
+use room::{Farm, SETPOINT};
 
 #[test]
 fn the_stated_deletion_and_insertion_in_either_order() {

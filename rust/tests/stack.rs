@@ -1,6 +1,6 @@
 //! What a call needs of the stack: 128 KB are enough for each, on the largest table.
 
-use reach::{Axis, Pairs, Results, Table, TableMut, Test};
+use reach::{Axis, Edited, Pairs, Results, Table, TableMut, Test};
 use std::thread;
 
 const ROWS: usize = 4_096;
@@ -37,6 +37,10 @@ fn on_a_small_stack(call: impl FnOnce() + Send + 'static) {
     thread::Builder::new().stack_size(STACK).spawn(call).unwrap().join().unwrap();
 }
 
+fn a_role_for_each_row() -> (Vec<usize>, Vec<usize>) {
+    (0..ROWS).map(|row| (row, row)).unzip()
+}
+
 #[test]
 fn check_and_find_fit() {
     let flat = Flat::new(ROWS, 1);
@@ -49,7 +53,7 @@ fn check_and_find_fit() {
 #[test]
 fn a_step_fits_counted_and_written() {
     let flat = Flat::new(ROWS, 1);
-    let (role, row): (Vec<usize>, Vec<usize>) = (0..ROWS).map(|row| (row, row)).unzip();
+    let (role, row) = a_role_for_each_row();
     let (mut out_role, mut out_row) = (vec![0; ROWS], vec![0; ROWS]);
     on_a_small_stack(move || {
         for axis in Axis::ALL {
@@ -70,5 +74,20 @@ fn edits_fit() {
         flat.count = ROWS;
         assert!(flat.table_mut().rename(2, 7).is_ok());
         assert!(flat.table_mut().delete(10_000).is_ok());
+    });
+}
+
+#[test]
+fn a_carry_fits() {
+    let (role, row) = a_role_for_each_row();
+    let (mut out_role, mut out_row) = (vec![0; ROWS], vec![0; ROWS]);
+    let deleted = Edited { count: ROWS - 1_000, first_moved_row: 1_001, moved: -1_000 };
+    let renamed = Edited { count: ROWS, first_moved_row: ROWS, moved: 0 };
+    on_a_small_stack(move || {
+        for edited in [deleted, renamed] {
+            let results = Results { role: &mut out_role, row: &mut out_row };
+            let carried = Pairs { role: &role, row: &row }.carry(&edited, results);
+            assert_eq!(carried, Ok(edited.count));
+        }
     });
 }
