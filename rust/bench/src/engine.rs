@@ -1,5 +1,6 @@
 //! The two programs that race.
 
+use crate::carries::{Carry, Room};
 use crate::steps::Step;
 use crate::tables::Columns;
 
@@ -14,6 +15,7 @@ pub trait Engine {
     fn insert(&self, table: &mut Columns, parent: usize, piece: &Columns) -> Seen;
     fn delete(&self, table: &mut Columns, wanted: usize) -> Seen;
     fn rename(&self, table: &mut Columns, wanted: usize, new_name: usize) -> Seen;
+    fn carry(&self, carry: &Carry, room: &mut Room) -> Seen;
 }
 
 /// The columns as a table of a package.
@@ -44,6 +46,13 @@ macro_rules! lend_mut {
     };
 }
 
+/// The pairs of a step or a carry, as a package has them.
+macro_rules! lend_pairs {
+    ($package:ident, $call:expr) => {
+        $package::Pairs { role: &$call.role, row: &$call.row }
+    };
+}
+
 macro_rules! seen {
     ($answer:expr) => {{
         let answer = $answer;
@@ -66,7 +75,7 @@ impl Engine for Plain {
     fn step(&self, table: &Columns, step: &mut Step) -> Seen {
         seen!(plain::step(
             &lend!(plain, table),
-            &plain::Pairs { role: &step.role, row: &step.row },
+            &lend_pairs!(plain, step),
             plain::Question { axis: step.axis, test: step.test, test_name: step.test_name },
             &mut plain::Results { role: &mut step.out_role, row: &mut step.out_row },
         ))
@@ -82,6 +91,16 @@ impl Engine for Plain {
 
     fn rename(&self, table: &mut Columns, wanted: usize, new_name: usize) -> Seen {
         seen!(plain::rename(&mut lend_mut!(plain, table), wanted, new_name))
+    }
+
+    fn carry(&self, carry: &Carry, room: &mut Room) -> Seen {
+        seen!(plain::carry(
+            &lend_pairs!(plain, carry),
+            carry.old_count,
+            carry.first,
+            carry.moved,
+            &mut plain::Results { role: &mut room.role, row: &mut room.row },
+        ))
     }
 }
 
@@ -102,7 +121,7 @@ impl Engine for Library {
     fn step(&self, table: &Columns, step: &mut Step) -> Seen {
         seen!(reach::boundary::step(
             lend!(reach, table),
-            reach::Pairs { role: &step.role, row: &step.row },
+            lend_pairs!(reach, step),
             step.axis,
             step.test,
             step.test_name,
@@ -120,5 +139,15 @@ impl Engine for Library {
 
     fn rename(&self, table: &mut Columns, wanted: usize, new_name: usize) -> Seen {
         seen!(reach::boundary::rename(&mut lend_mut!(reach, table), wanted, new_name))
+    }
+
+    fn carry(&self, carry: &Carry, room: &mut Room) -> Seen {
+        seen!(reach::boundary::carry(
+            lend_pairs!(reach, carry),
+            carry.old_count,
+            carry.first,
+            carry.moved,
+            reach::Results { role: &mut room.role, row: &mut room.row },
+        ))
     }
 }

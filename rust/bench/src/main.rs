@@ -5,6 +5,7 @@
 #![forbid(unsafe_code)]
 #![allow(missing_docs)]
 
+mod carries;
 mod checks;
 mod edits;
 mod engine;
@@ -33,6 +34,7 @@ fn race() {
     steps::run(&race);
     growth::run(&race);
     edits::run(&race);
+    carries::run(&race);
 }
 
 #[cfg(feature = "library")]

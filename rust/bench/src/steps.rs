@@ -3,6 +3,7 @@
 use crate::race::{Race, Times};
 use crate::report::Group;
 use crate::tables::{plant, scattered_key, Columns};
+use std::ops::Range;
 
 /// The geometric mean of all steps against plain Rust, and the worst.
 const MEAN_BAR: f64 = 1.2;
@@ -83,12 +84,17 @@ pub fn time(race: &Race, table: &Columns, step: &mut Step) -> Times {
 }
 
 /// 200 roles with 20 pairs each, at rows without a pattern.
-pub fn desk_pairs(rows: std::ops::Range<usize>) -> Vec<(usize, usize)> {
+pub fn desk_pairs(rows: Range<usize>) -> Vec<(usize, usize)> {
+    spread_pairs(200, 20, rows)
+}
+
+/// So many roles with so many pairs each, at rows without a pattern.
+pub fn spread_pairs(roles: usize, each: usize, rows: Range<usize>) -> Vec<(usize, usize)> {
     let mut pairs: Vec<(usize, usize)> = Vec::new();
-    for role in 0..200 {
+    for role in 0..roles {
         let mut number = role * 1_000;
         let start = pairs.len();
-        while pairs.len() < start + 20 {
+        while pairs.len() < start + each {
             number += 1;
             let pair = (role, rows.start + scattered_key(number) % rows.len());
             if !pairs[start..].contains(&pair) {
