@@ -39,7 +39,7 @@ const PARTS: [(Part, u64, u64); 6] = [
     (Part::Step, steps::CALLS, 1),
     (Part::Edit, edits::CALLS, 1),
     (Part::Carry, carries::CALLS, 1),
-    (Part::Circle, circles::CIRCLES, 5),
+    (Part::Circle, circles::CIRCLES, 6),
     (Part::Commute, commute::PAIRS, 14),
 ];
 
