@@ -146,7 +146,7 @@ static EDITS: [Note; 6] = [
     }),
 ];
 
-static CARRIES: [Note; 18] = [
+static CARRIES: [Note; 20] = [
     carry("old count 0", 1_000, |case, _| case.count == 0),
     carry("old count 4,097", 1_000, |case, _| case.count == MOST_ROWS + 1),
     carry("old count 4,096, accepted", 50, |case, answer| {
@@ -170,6 +170,7 @@ static CARRIES: [Note; 18] = [
     carry("first moved row comes to row 1, accepted", 1_000, |case, answer| {
         answer.refusal == 0 && comes_to(case) == 1
     }),
+    carry("new count 0", 1_000, |case, answer| answer.refusal == 17 && new_count(case) == 0),
     carry("new count 1, accepted", 1_000, |case, answer| {
         answer.refusal == 0 && new_count(case) == 1
     }),
@@ -184,6 +185,10 @@ static CARRIES: [Note; 18] = [
     }),
     carry("the largest move there is", 500, |case, answer| {
         answer.refusal == 17 && carry_of(case).moved == i64::MAX
+    }),
+    carry("a pair out of order, a row not in use and a bad move", 50, |case, answer| {
+        let outside = lists_of(case).row.iter().any(|&row| row >= case.count);
+        answer.refusal == 4 && outside && carry_of(case).first == 0
     }),
     carry("a bad move, and too little room as well", 1_000, |case, answer| {
         answer.refusal == 17 && lists_of(case).room() == 0 && !lists_of(case).row.is_empty()
