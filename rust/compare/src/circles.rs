@@ -1,5 +1,5 @@
-//! The whole circle, as an administrator goes round it: a step, an edit, the pairs carried over it,
-//! and the next step with the carried pairs as they are.
+//! The whole circle, as an administrator goes round it: an edit, the pairs carried over it, a step
+//! with the carried pairs as they are, and the next edit.
 
 use crate::case::{Call, Lists, Step};
 use crate::edits::fitting_edit;
@@ -17,6 +17,7 @@ pub const CIRCLES: u64 = 40_000;
 const MOST_EDITS: usize = 3;
 const SPARE: usize = 15;
 
+/// Goes round with one table after the other.
 pub fn run(judge: &mut Judge<'_>, seed: u64, circles: u64) -> Result<(), Difference> {
     let mut progress = Progress::new("circles of edit, carry and step", circles);
     for number in 0..circles {

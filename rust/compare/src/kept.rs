@@ -5,7 +5,6 @@ use crate::case::{Call, Carry, Case, Columns, Lists};
 use crate::judge::{Difference, Judge};
 
 /// A table, and the pairs that are kept for it.
-#[derive(Clone)]
 pub struct Kept {
     pub table: Columns,
     pub count: usize,
@@ -28,7 +27,8 @@ impl Kept {
         let lists = self.carried(judge, edited.second, edited.moved)?;
         let after = Kept { table: left.table, count: edited.first, lists };
         if !self.keys_left(&after).eq(after.keys_held()) {
-            let told = format!("the carried list {:?} names other keys after", after.lists);
+            let (old, new) = (&self.lists, &after.lists);
+            let told = format!("the pairs {old:?}\nare carried to other keys, {new:?}");
             return Err(judge.tell(&self.asks(edit.clone()), &told));
         }
         Ok(Some(after))

@@ -1,4 +1,4 @@
-//! Pairs carried over an edit, so that each names the row that it named before.
+//! Pairs carried over an edit, so that each names the key that it named before.
 
 use crate::answer::Answer;
 use crate::pairs::Pairs;
