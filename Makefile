@@ -1,5 +1,5 @@
 # make reach: proves, builds and runs the example program.
-# make test:  the comparisons with the second program, then the whole proof from nothing.
+# make test:  the whole proof from nothing, then the examples, the tests and the comparisons with the second program.
 # make compare SEED=1 CALLS=1000000: the comparisons, for as long as asked.
 # make memcheck SEED=1 CALLS=100000: the same under valgrind.
 # make bench: the library beside plain Rust.
@@ -16,11 +16,8 @@ reach:
 library:
 	tools/staticlib
 
-test: library
-	tools/first_calls
-	cd rust && cargo test --offline --release --workspace
-	cd rust && cargo run --offline --release -p compare
-	rt ci
+test:
+	tools/gate
 
 compare: library
 	cd rust && cargo run --offline --release -p compare -- --seed $(SEED) --calls $(CALLS)

@@ -12,10 +12,9 @@ use lib.Seq.{take-append-seam}
 use Rattle.tree.specs.Table.{Table}
 use Rattle.tree.specs.Pairs.{Pair, pairsOf, rolesOf, rowsOf}
 use Rattle.tree.specs.StepRules.{PairsFit}
-use Rattle.tree.specs.Refusal.{given, givenAt, next, pairCheck, roomCheck}
+use Rattle.tree.specs.Refusal.{givenAt, pairCheck, roomCheck}
 use Rattle.tree.specs.Outcome.{overwritten}
-use Rattle.tree.specs.Carry.{carried, moveOk, carryIf, carryCheck, carryOutcome}
-use Rattle.tree.specs.CarryRules.{CarryFits}
+use Rattle.tree.specs.Carry.{carried, carryIf, carryCheck, carryOutcome}
 use Rattle.tree.specs.declared.Checked.{Checked}
 use Rattle.tree.specs.declared.Checked.the-variants.{Passed, Refused}
 use Rattle.tree.specs.declared.Done.{Done}

@@ -3,14 +3,14 @@
 -- a pair is dropped exactly when its key is gone, `dropped-gone`; and each role holds the keys that it held, but for
 -- those gone, `grants-stay`. Assumes nothing.
 use mathlib.Core.Path.{_≡_, refl, sym, ap, ap₂, _∙_}
-use mathlib.Core.Logic.{inl, inr, _↔_}
+use mathlib.Core.Logic.{_↔_}
 use mathlib.Core.Bool.{Bool, true, false, cond, not, true≢false}
 use mathlib.Core.List.{List, [], _∷_, map}
 use Prim.Native.Nat.{ℕ, _<_}
 use native.Mathlib.Omega.{arith}
 use borrow.Author.Tests.{ltb-true, lt-ltb, not-false}
 use lib.Dec.{ltb}
-use lib.IntN.{pos, natAbs}
+use lib.IntN.{natAbs}
 use Rattle.tree.specs.Table.{Table, at}
 use Rattle.tree.specs.Sound.{rowOf}
 use Rattle.tree.specs.Rules.{Sound}
@@ -26,7 +26,7 @@ use Rattle.tree.proofs.EditLaws.{row-key}
 use Rattle.tree.proofs.FindLaws.{find-row, find-found, find-none}
 use Rattle.tree.proofs.StepLaws.{In}
 use Rattle.tree.proofs.CarryLaws.{carried-in, carried-same}
-use Rattle.commute.specs.Act.{Act, outcome, Accepted}
+use Rattle.commute.specs.Act.{Act, outcome}
 use Rattle.commute.specs.Again.{goes}
 use Rattle.commute.proofs.FoundAgain.{edited-sound, row-again}
 use Rattle.commute.proofs.GoneLaws.{gone}

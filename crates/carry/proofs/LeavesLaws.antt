@@ -10,7 +10,7 @@ use borrow.Author.Tests.{lt-ltb, le-ltb, leb-true, not-false}
 use lib.Dec.{leb}
 use lib.IntN.{ℤ, pos, _+ℤ_}
 use lib.ListN.{length}
-use Rattle.tree.specs.Pairs.{Pair, pairsOf, rolesOf, rowsOf}
+use Rattle.tree.specs.Pairs.{Pair, pairsOf}
 use Rattle.tree.specs.StepRules.{PairsFit}
 use Rattle.tree.specs.Refusal.{given, next, pairCheck, roomCheck}
 use Rattle.tree.specs.Carry.{carried, oldCountOk, moveOk, CarryOutcome, carryIf, carryCheck, carryOutcome}

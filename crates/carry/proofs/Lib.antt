@@ -6,3 +6,4 @@ pub mod MoveLaws
 pub mod GrantLaws
 pub mod TurnLaws
 pub mod CircleLaws
+pub mod FarmOrder

@@ -1,13 +1,11 @@
 -- An accepted edit's first moved row and move, read as carrying reads them: they fit, so refusal 17 is not given,
 -- `edit-moves`, and the rows that they drop are those that the edit deletes, `deleted-goes`. Assumes nothing.
-use mathlib.Core.Path.{_≡_, refl, sym, ap, _∙_}
-use mathlib.Core.Bool.{Bool, true, false, _&&_, true≢false}
+use mathlib.Core.Path.{_≡_, refl, ap, _∙_}
+use mathlib.Core.Bool.{Bool, true, false}
 use Prim.Native.Nat.{ℕ, _+_, _-_, _<_, _≤_}
 use native.Mathlib.Decide.{decLt}
 use native.Mathlib.Omega.{arith}
-use borrow.Author.Tests.{le-leb, lt-leb, lt-ltb, le-ltb}
-use lib.Dec.{ltb, leb}
-use lib.IntN.{ℤ, pos, _+ℤ_}
+use lib.IntN.{pos, _+ℤ_}
 use Rattle.tree.specs.Table.{Table, at}
 use Rattle.tree.specs.Edit.{gapOf, inserted, deleted, renamed, minus, insertDone, deleteDone, renameDone}
 use Rattle.tree.specs.Carry.{wasDeleted}

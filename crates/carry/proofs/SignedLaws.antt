@@ -3,7 +3,7 @@
 -- `refused-otherwise`, `far-down`, `far-up`; the others are its tests, `same-tests`. A move that fits is small,
 -- `fits-small`, and takes a row to a row, `row-moves`.
 -- Assumes nothing.
-use mathlib.Core.Path.{_≡_, refl, sym, ap, ap₂, _∙_}
+use mathlib.Core.Path.{_≡_, refl, sym, ap₂, _∙_}
 use mathlib.Core.Bool.{Bool, true, false, cond, _&&_, true≢false}
 use Prim.Native.Nat.{ℕ, suc, _+_, _-_, _<_, _≤_}
 use native.Mathlib.Omega.{arith}

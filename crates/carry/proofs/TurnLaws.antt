@@ -2,7 +2,7 @@
 -- table, `carry-both`, unless the second edit brings a key back that the first deleted: that is another row, and the
 -- grant on the old one is gone. So over two edits that may come in either order (demand 3) a list is carried to the same
 -- list, `either-order`. Assumes nothing.
-use mathlib.Core.Path.{_≡_, refl, sym, ap, ap₂, subst, _∙_}
+use mathlib.Core.Path.{_≡_, refl, sym, ap, ap₂, _∙_}
 use mathlib.Core.Bool.{Bool, true, false, not, _||_, true≢false}
 use mathlib.Core.List.{List}
 use Prim.Native.Nat.{ℕ, _<_}
@@ -14,7 +14,7 @@ use Rattle.tree.specs.Sound.{rowOf}
 use Rattle.tree.specs.Rules.{Sound}
 use Rattle.tree.specs.EditRules.{NoKey}
 use Rattle.tree.specs.Pairs.{Pair}
-use Rattle.tree.specs.Carry.{carriedBy, carried}
+use Rattle.tree.specs.Carry.{carried}
 use Rattle.tree.specs.declared.Done.{Done}
 use Rattle.tree.specs.declared.Edited.the-variants.{Made}
 use Rattle.tree.proofs.AcceptLaws.{no-key, insert-passes}
@@ -22,7 +22,6 @@ use Rattle.tree.proofs.EditLaws.{row-key}
 use Rattle.tree.proofs.RowsInUse.{cut-find}
 use Rattle.tree.proofs.NodeLaws.{absent-edited, all-rows, rows-all}
 use Rattle.tree.proofs.Nodes.{Unlike, Absent, nodeAt, nodesOf, brought}
-use Rattle.tree.proofs.StepLaws.{In}
 use Rattle.tree.proofs.CarryLaws.{carried-same, carried-twice}
 use Rattle.commute.specs.Act.{Act, insertion, deletion, renaming, outcome, tableAfter, rowNamed}
 use Rattle.commute.specs.Independent.{Independent, inTurn}

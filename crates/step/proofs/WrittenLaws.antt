@@ -2,7 +2,7 @@
 -- end; what the step of one role and the filling of its roles ask for: `written-asks`, `written-room`. Assumes nothing.
 use mathlib.Core.Path.{_≡_, refl, sym, ap, _∙_}
 use mathlib.Core.List.{List, [], _∷_, _++_, append-nil, append-assoc}
-use Prim.Native.Nat.{ℕ, suc, _+_, _-_, _*_, _≤_}
+use Prim.Native.Nat.{ℕ, _+_, _-_, _*_, _≤_}
 use native.Mathlib.Omega.{arith}
 use lib.ListN.{length, replicate, length-append, length-drop, length-take}
 use borrow.Rule.Slice.PartMut.{midOf, putMid}

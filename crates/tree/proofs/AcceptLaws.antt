@@ -2,7 +2,7 @@
 -- Tests that fail, `neither`, `neither-of`; a search that finds nothing, `none-below`; a key that is not found,
 -- `no-key`; a piece that may be inserted, `piece-ok`; the last check of a chain, `next-next`. Assumes nothing.
 use mathlib.Core.Path.{_≡_, refl, ap, _∙_}
-use mathlib.Core.Logic.{_⊎_, inl, inr, ⊎-elim, _↔_}
+use mathlib.Core.Logic.{inl, inr, ⊎-elim, _↔_}
 use mathlib.Core.Bool.{Bool, true, false, not, _||_, true≢false}
 use Prim.Native.Nat.{ℕ, _+_, _<_, _≤_}
 use native.Mathlib.Omega.{arith}

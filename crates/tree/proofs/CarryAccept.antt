@@ -1,21 +1,20 @@
 -- Carrying is accepted exactly if everything fits: `carry-passes`; then it answers and leaves the new list,
 -- `carry-accepted`. In row numbers that list is `carried-is`, and the new count `count-moves`. The list fits the new
 -- table, `carried-fits`: it does not fall, and its rows are below the new count. Assumes nothing.
-use mathlib.Core.Path.{_≡_, refl, sym, ap, subst, _∙_}
+use mathlib.Core.Path.{_≡_, refl, sym, ap, _∙_}
 use mathlib.Core.Logic.{_⊎_, inl, inr, ⊎-elim, _↔_}
 use mathlib.Core.Bool.{Bool, true, false, cond, not, _&&_, true≢false}
 use mathlib.Core.List.{List, [], _∷_}
 use Prim.Native.Nat.{ℕ, suc, _+_, _-_, _<_, _≤_}
 use native.Mathlib.Omega.{arith}
-use borrow.Author.Tests.{leb-true, leb-false, le-leb, ltb-true, ltb-false, lt-ltb, le-ltb, not-false}
+use borrow.Author.Tests.{leb-true, leb-false, le-leb, ltb-true, ltb-false, not-false}
 use lib.Dec.{ltb, leb}
-use lib.IntN.{ℤ, pos, natAbs, _+ℤ_}
+use lib.IntN.{ℤ, pos, natAbs}
 use lib.ListN.{length}
-use Rattle.tree.specs.Table.{at}
-use Rattle.tree.specs.Pairs.{Pair, pair, pairsOf, rolesOf, rowsOf, outOfOrder}
+use Rattle.tree.specs.Pairs.{Pair, pair, pairsOf, rolesOf, rowsOf}
 use Rattle.tree.specs.StepRules.{PairsFit}
-use Rattle.tree.specs.Carry.{rowAfter, wasDeleted, carriedBy, carried, oldCountOk, moveOk}
-use Rattle.tree.specs.Carry.{CarryOutcome, carryIf, carryCheck, carryOutcome}
+use Rattle.tree.specs.Carry.{carriedBy, carried, oldCountOk}
+use Rattle.tree.specs.Carry.{carryIf, carryCheck, carryOutcome}
 use Rattle.tree.specs.CarryRules.{MoveFits, CarryFits, newRow, goneRow}
 use Rattle.tree.specs.Outcome.{overwritten}
 use Rattle.tree.specs.declared.Checked.{Checked}
@@ -24,7 +23,6 @@ use Rattle.tree.specs.declared.Carried.the-variants.{Written}
 use Rattle.tree.proofs.SoundLaws.{both, both-of, next-passed, given-passed, given-not}
 use Rattle.tree.proofs.RoleLaws.{pair-passes}
 use Rattle.tree.proofs.StepAccept.{room-passes}
-use Rattle.tree.proofs.StepLaws.{In}
 use Rattle.tree.proofs.MoveLaws.{move-adds, move-ok, new-row, gone-row}
 use Rattle.tree.proofs.CarryLaws.{carried-in, carried-same, carried-most}
 use Rattle.tree.proofs.PairColumns.{length-roles, length-rows, length-pairs, pairs-below, rows-below}

@@ -1,10 +1,10 @@
 -- A signed move in row numbers: what it does to one row it does to every later one, `move-adds`. Refusal 17 does not
 -- apply exactly if the move fits, `move-ok`. Then the row after the edit is `newRow`, `new-row`, and the rows from
 -- where the first moved row stands afterwards up to where it stood are the deleted ones, `gone-row`. Assumes nothing.
-use mathlib.Core.Path.{_≡_, refl, sym, ap, subst, _∙_}
+use mathlib.Core.Path.{_≡_, refl, ap, subst, _∙_}
 use mathlib.Core.Logic.{_↔_}
 use mathlib.Core.Bool.{Bool, true, false, cond, _&&_, false≢true}
-use Prim.Native.Nat.{ℕ, _+_, _-_, _<_, _≤_}
+use Prim.Native.Nat.{ℕ, _+_, _-_, _≤_}
 use native.Mathlib.Omega.{arith}
 use borrow.Author.Tests.{leb-true, le-leb, ltb-false}
 use lib.Dec.{ltb, leb}

@@ -1,6 +1,6 @@
 -- Grants that move with their rows: 02, E1. A list of pairs is carried over an edit by the old count and by what the
 -- edit answered, its first moved row and its move. For edits that the library accepted each pair keeps its key:
--- carry/proofs/KeyLaws.antt. Assumes nothing.
+-- carry/proofs/GrantLaws.antt. Assumes nothing.
 use Prim.Native.Nat.{ℕ}
 use mathlib.Core.Bool.{Bool, cond, not, _&&_}
 use mathlib.Core.List.{List, [], _∷_}

@@ -1,5 +1,5 @@
 -- `carry::carry` meets its contract: refused by a check, without room, or with the new list written. Assumes nothing.
-use mathlib.Core.Path.{_≡_, sym, _∙_}
+use mathlib.Core.Path.{sym, _∙_}
 use native.Mathlib.Omega.{arith}
 use mir.Syntax.{w64}
 use mir.Facts.{toZ-ofZ}
@@ -7,8 +7,6 @@ use Rattle.carry.proofs.LeavesLaws.{leaves-refused, call-moves, leaves-
 use borrow.Author.Needs.{needs}
 use Rattle.carry.proofs.carry.Statement.{statement}
 use Rattle.carry.proofs.carry.Tie as tie
-use Rattle.carry.proofs.carry.Reads as reads
-use Rattle.carry.proofs.carry.Lts as lts
 
 check-call-requires : tie.Need-check-call-requires
 check-call-requires c κs = search needs

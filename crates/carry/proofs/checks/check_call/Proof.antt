@@ -1,10 +1,8 @@
 -- `carry::checks::check_call` meets its contract: the old count first. Assumes nothing.
-use mathlib.Core.Path.{_≡_, sym, ap, _∙_}
-use lib.IntN.{ℤ}
 use mir.Syntax.{w64}
 use mir.Facts.{toZ-ofZ}
 use borrow.Author.Tests.{le-leb, lt-leb}
-use Rattle.tree.specs.Refusal.{given, next, pairCheck}
+use Rattle.tree.specs.Refusal.{given, next}
 use Rattle.tree.specs.Carry.{oldCountOk}
 use borrow.Author.Needs.{needs}
 use Rattle.carry.proofs.checks.check_call.Statement.{statement}

@@ -1,6 +1,5 @@
 -- `carry::checks::check_pairs_and_move` meets its contract: the first refusal of the two. Assumes nothing.
-use mathlib.Core.Path.{_≡_, sym, ap, _∙_}
-use mathlib.Core.Bool.{true, false}
+use mathlib.Core.Path.{sym, ap, _∙_}
 use mir.Syntax.{w64}
 use mir.Facts.{toZ-ofZ}
 use Rattle.tree.specs.Refusal.{given, next}

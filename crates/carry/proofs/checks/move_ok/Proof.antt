@@ -14,8 +14,6 @@ use Rattle.carry.proofs.SignedLaws.{sum-fits, sum-is, small-move, refus
 use borrow.Author.Needs.{needs}
 use Rattle.carry.proofs.checks.move_ok.Statement.{statement}
 use Rattle.carry.proofs.checks.move_ok.Tie as tie
-use Rattle.carry.proofs.checks.move_ok.Reads as reads
-use Rattle.carry.proofs.checks.move_ok.Lts as lts
 
 -- a move that passes both tests is small
 near : (m : ℤ) → SFits w64 m → ltZ (toZ w64 (ofZ w64 m)) (negsuc 4095) ≡ false

@@ -1,0 +1,61 @@
+-- The theorems on carrying are not empty: pairs of the small farm over M9 and M10, in either order, are carried to the
+-- same list, `farm-order`, which is (5,1), (7,4), (7,8), `farm-carried`. Assumes nothing.
+use mathlib.Core.Path.{_≡_, refl}
+use mathlib.Core.Logic.{inl, inr}
+use mathlib.Core.List.{List, [], _∷_}
+use native.Mathlib.Omega.{arith}
+use lib.IntN.{pos, negsuc}
+use Rattle.tree.specs.Search.{least, someBelow, nearest}
+use Rattle.tree.specs.Table.{shortest, countOk}
+use Rattle.tree.specs.Sound.{levelOk, runOf, sizeOf, sizeOk, kindOk, hasName, nameOk, rowOf, keyOk, restOk, rowOk}
+use Rattle.tree.specs.Sound.{firstBad}
+use Rattle.tree.specs.Tree.{parent, above, ancestor}
+use Rattle.tree.specs.Pairs.{Pair, pair}
+use Rattle.tree.specs.Edit.{opened, closed, changed, gapOf, inserted, deleted, minus, insertDone, deleteDone}
+use Rattle.tree.specs.Refusal.{given, givenAt, next, tableCheck, keyCheck, badPiece, insertCheck, deleteCheck}
+use Rattle.tree.specs.Outcome.{editIf, editCheck, insertOutcome, deleteOutcome}
+use Rattle.tree.specs.Carry.{wasDeleted, carriedBy, carried}
+use Rattle.tree.specs.declared.Done.{Done}
+use Rattle.tree.proofs.FarmCalls.{farm, leaf}
+use Rattle.commute.specs.Act.{deletion, insertion}
+use Rattle.commute.proofs.FarmPair.{farm-independent}
+use Rattle.carry.proofs.GrantLaws.{Inside}
+use Rattle.carry.proofs.TurnLaws.{either-order}
+
+-- role 5 holds the first turbine and one of its blades, role 7 the second turbine and the comment
+abbrev held : List Pair
+held = pair 5 1 ∷ pair 5 2 ∷ pair 7 6 ∷ pair 7 9 ∷ []
+
+held-inside : Inside farm held
+held-inside q (inl e) = rw e (omega arith)
+held-inside q (inr (inl e)) = rw e (omega arith)
+held-inside q (inr (inr (inl e))) = rw e (omega arith)
+held-inside q (inr (inr (inr (inl e)))) = rw e (omega arith)
+held-inside q (inr (inr (inr (inr e)))) = absurd e
+
+-- what M9 and M10 answer on the farm, and each after the other
+abbrev deletes : Done
+deletes = record { count = 8; first = 4; moved = negsuc 1 }
+
+abbrev inserts : Done
+inserts = record { count = 11; first = 9; moved = pos 1 }
+
+abbrev thenInserts : Done
+thenInserts = record { count = 9; first = 7; moved = pos 1 }
+
+abbrev thenDeletes : Done
+thenDeletes = record { count = 9; first = 4; moved = negsuc 1 }
+
+-- either order carries the pairs to the same list
+pub farm-order : carried 7 (pos 1) (carried 4 (negsuc 1) held) ≡ carried 4 (negsuc 1) (carried 9 (pos 1) held)
+unfolding least someBelow nearest shortest countOk levelOk runOf sizeOf sizeOk kindOk hasName nameOk rowOf keyOk restOk
+    rowOk firstBad parent above ancestor given givenAt next tableCheck keyCheck badPiece insertCheck deleteCheck
+    editIf editCheck insertOutcome deleteOutcome opened closed changed gapOf inserted deleted minus insertDone deleteDone
+farm-order =
+    either-order (deletion 21) (insertion 31 leaf) farm farm-independent held held-inside
+    deletes thenInserts inserts thenDeletes refl refl refl refl
+
+-- namely to this one
+pub farm-carried : carried 7 (pos 1) (carried 4 (negsuc 1) held) ≡ pair 5 1 ∷ pair 7 4 ∷ pair 7 8 ∷ []
+unfolding carried carriedBy wasDeleted
+farm-carried = refl
