@@ -31,7 +31,7 @@ use Rattle.commute.specs.Again.{goes}
 use Rattle.commute.proofs.FoundAgain.{edited-sound, row-again}
 use Rattle.commute.proofs.GoneLaws.{gone}
 use Rattle.carry.specs.Refound.{againAt, refound}
-use Rattle.carry.proofs.MoveLaws.{deleted-goes}
+use Rattle.carry.proofs.MoveLaws.{moved-to-is, deleted-goes}
 
 -- ── carrying is finding again ──
 -- every pair's row is a row of the table: what refusal 5 leaves
@@ -52,7 +52,7 @@ module _ (a : Act) (t : Table) (d : Done) (e : outcome a t .answer ≡ Made d) w
       let q : againAt t (outcome a t .table) w ≡ v =
       ap (rowOf (u .key) (u .count)) (sym (r .key)) ∙ find-at u (edited-sound a t (d, e)) v (r .in-use) in (
         ap not (lt-ltb (againAt t u w) (u .count) (omega (arith, r .in-use))),
-        λ z. ap natAbs (sym (r .moved)) ∙ sym q,
+        λ z. ap natAbs (sym (r .moved ∙ moved-to-is d w)) ∙ sym q,
       )
 
   -- the carried list is the list found again by its keys

@@ -1,5 +1,6 @@
--- An accepted edit's first moved row and move, read as carrying reads them: they fit, so refusal 17 is not given,
--- `edit-moves`, and the rows that they drop are those that the edit deletes, `deleted-goes`. Assumes nothing.
+-- An accepted edit's first moved row and move, read as carrying reads them: they say the same of a row, `moved-to-is`;
+-- they fit, so refusal 17 is not given, `edit-moves`; and the rows that they drop are those that the edit deletes,
+-- `deleted-goes`. Assumes nothing.
 use mathlib.Core.Path.{_≡_, refl, ap, _∙_}
 use mathlib.Core.Bool.{Bool, true, false}
 use Prim.Native.Nat.{ℕ, _+_, _-_, _<_, _≤_}
@@ -8,18 +9,23 @@ use native.Mathlib.Omega.{arith}
 use lib.IntN.{pos, _+ℤ_}
 use Rattle.tree.specs.Table.{Table, at}
 use Rattle.tree.specs.Edit.{gapOf, inserted, deleted, renamed, minus, insertDone, deleteDone, renameDone}
-use Rattle.tree.specs.Carry.{wasDeleted}
+use Rattle.tree.specs.Carry.{rowAfter, wasDeleted}
 use Rattle.tree.specs.CarryRules.{MoveFits, goneRow}
 use Rattle.tree.specs.declared.Done.{Done}
 use Rattle.tree.specs.declared.Edited.the-variants.{Made}
 use Rattle.tree.proofs.AcceptLaws.{insert-passes, delete-passes}
 use Rattle.tree.proofs.EditLaws.{gap-fits}
 use Rattle.commute.specs.Act.{Act, insertion, deletion, renaming, outcome, rowNamed, tableAfter, doneOf}
-use Rattle.commute.specs.Again.{goes}
+use Rattle.commute.specs.Again.{movedTo, goes}
 use Rattle.commute.proofs.ActLaws.{Fits, accepted-has}
 use Rattle.commute.proofs.FoundAgain.{plus-minus, after-gap}
 use Rattle.commute.proofs.GoneLaws.{in-gap}
 use Rattle.carry.proofs.LeftLaws.{between, before-it, behind-it}
+
+-- ── the row after the edit ──
+-- what commute says of an edit's answer is what carrying does with its two numbers
+pub moved-to-is : (d : Done) (w : ℕ) → movedTo d w ≡ rowAfter (d .first) (d .moved) w
+moved-to-is d w = refl
 
 -- ── the move fits ──
 -- an edit's answer fits the table that it edits, and the count that it leaves is the new one

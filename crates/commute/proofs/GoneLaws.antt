@@ -72,7 +72,7 @@ module _ (t : Table) (k : ℕ) (f : Fits (deletion k) t) (i : ℕ) (l : i < t .c
       ]
 
 -- the same of any edit: only a deletion has rows that go
-pub after-gone : (a : Act) (t : Table) → Fits a t → (i : ℕ) → i < t .count → goes a t i ≡ true
+after-gone : (a : Act) (t : Table) → Fits a t → (i : ℕ) → i < t .count → goes a t i ≡ true
     → NoKey (tableAfter a t) (at (t .key) i)
 after-gone (insertion k p) t f i l g = absurd (false≢true g)
 after-gone (deletion k) t f i l g = key-gone t k f i l g

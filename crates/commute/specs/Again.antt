@@ -4,17 +4,16 @@
 use Prim.Native.Nat.{ℕ, _<_}
 use mathlib.Core.Path.{_≡_}
 use mathlib.Core.Bool.{Bool, false, cond, _||_}
-use lib.Dec.{eqb}
+use lib.Dec.{ltb, eqb}
 use lib.IntN.{ℤ, pos, _+ℤ_}
 use Rattle.tree.specs.Table.{Table, at}
 use Rattle.tree.specs.Tree.{ancestor}
-use Rattle.tree.specs.Carry.{rowAfter}
 use Rattle.tree.specs.declared.Done.{Done}
 use Rattle.commute.specs.Act.{Act, insertion, deletion, renaming, rowNamed}
 
--- row i in the new numbering, by an edit's answer
+-- row i in the new numbering: from the first moved row on rows move by the signed move, the others stay
 abbrev pub movedTo : Done → ℕ → ℤ
-movedTo d i = rowAfter (d .first) (d .moved) i
+movedTo d i = cond (ltb i (d .first)) (pos i) (pos i +ℤ d .moved)
 
 -- row i goes: it is the deleted row or a descendant of it
 abbrev pub goes : Act → Table → ℕ → Bool
