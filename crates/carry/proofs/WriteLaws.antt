@@ -1,43 +1,28 @@
--- Writing the pairs that stay (`Writing`): nothing yet, `writing-none`; while some are left there is a pair to read,
--- `writing-reads`; one pair more, `writing-more`; and all of them, `writing-done`. Assumes nothing.
+-- Writing the pairs that stay (`Writing`): nothing yet, `writing-none`; no more than there are, `writing-most`; no
+-- fewer lie ahead than are left, `writing-ahead`, so while some are left there is one to read, `writing-reads`; one
+-- pair more, `writing-more`; and all of them, `writing-done`. A few at a time (`Puts`): one, `put-one`, and one more,
+-- `put-more`; while that many are left there is room for them, `writing-fits`, and then they are written,
+-- `writing-puts`. Assumes nothing.
 use mathlib.Core.Path.{_≡_, refl, sym, ap, ap₂, subst, _∙_}
 use mathlib.Core.Bool.{Bool, true, false, cond}
 use mathlib.Core.List.{List, [], _∷_, _++_, append-nil}
-use Prim.Native.Nat.{ℕ, suc, _+_, _<_, _≤_}
-use native.Mathlib.Decide.{decLt}
+use Prim.Native.Nat.{ℕ, zero, suc, _+_, _<_, _≤_}
 use native.Mathlib.Numerals.{add-one}
 use native.Mathlib.Omega.{arith}
-use lib.IntN.{ℤ, pos}
-use lib.ListN.{length, getD, take, drop, set, length-append, length-set, take-append-drop}
-use lib.ListN.{drop-of-length-le}
+use lib.IntN.{ℤ, pos, natAbs}
+use lib.ListN.{length, getD, take, drop, set, length-append, length-drop, length-set, take-append-drop}
 use lib.Seq.{take-suc, take-suc-set, take-set-le, drop-set-lt}
 use Rattle.tree.specs.Table.{at}
 use Rattle.tree.specs.Pairs.{Pair, pair, pairsOf, rolesOf, rowsOf}
 use Rattle.tree.specs.Outcome.{overwritten}
 use Rattle.tree.specs.Carry.{rowAfter, carriedBy, carried}
 use Rattle.tree.specs.CarryRules.{newRow, goneRow}
-use Rattle.tree.proofs.CarryLaws.{carried-gone, carried-stays, carried-append}
+use Rattle.tree.proofs.CarryLaws.{carried-gone, carried-stays, carried-append, carried-most}
 use Rattle.tree.proofs.PairColumns.{length-roles, length-rows, roles-append, rows-append, length-pairs, pairs-at}
-use Rattle.carry.specs.Left.{leftOf, Ready, Carries}
+use Rattle.carry.specs.declared.pairs.Move.{Move}
+use Rattle.carry.specs.Left.{leftOf, Ready, Carries, doneOf, Begins, Writing}
+use Rattle.carry.specs.Left.{Filled, filled, put, puts, Room, Puts}
 use Rattle.carry.proofs.LeftLaws.{left-carried, row-to, carried-to}
-
--- the carried pairs of the first i places
-abbrev doneOf : List ℕ → List ℕ → ℕ → ℕ → ℕ → List Pair
-doneOf role row to first i = carriedBy (goneRow to first) (newRow to first) (take i (pairsOf role row))
-
--- a result column that begins with xs, n in number, and is as it was behind the first `left` places
-pub record Begins (xs old : List ℕ) (left n : ℕ) (new : List ℕ) : Type 0 where
-  pub front : take n new ≡ xs
-  pub behind : drop left new ≡ drop left old
-  pub long : length new ≡ length old
-
--- the pairs of the first i places that stay, n in number, stand in front of both result columns
-pub record Writing (role row : List ℕ) (to first left : ℕ) (oldRole oldRow outRole outRow : List ℕ) (n i : ℕ)
-    : Type 0 where
-  pub within : i ≤ length role
-  pub many : n ≡ length (doneOf role row to first i)
-  pub roles : Begins (rolesOf (doneOf role row to first i)) oldRole left n outRole
-  pub rows : Begins (rowsOf (doneOf role row to first i)) oldRow left n outRow
 
 -- ── a column ──
 -- written at the place n, which counts only where it is kept
@@ -121,17 +106,26 @@ module _ (role row : List ℕ) (old first : ℕ) (moved : ℤ) (to left : ℕ) (
       lengths : length (doneOf role row to first i) + length rest ≡ left
       lengths = sym (length-append (doneOf role row to first i) rest) ∙ ap length (sym split) ∙ all-left
 
+      -- no more are written than there are
+      pub writing-most : n ≤ left
+      writing-most = omega (arith, w .many, lengths)
+
+      -- no fewer pairs lie ahead than are left to write
+      pub writing-ahead : left + i ≤ n + length role
+      writing-ahead =
+          omega (
+            arith,
+            w .many,
+            w .within,
+            lengths,
+            carried-most (goneRow to first) (newRow to first) (drop i (pairsOf role row)),
+            length-drop i (pairsOf role row),
+            length-pairs role row (s .pairs .even),
+          )
+
       -- while some are left there is a pair to read
       pub writing-reads : n < left → i < length role
-      unfolding carriedBy
-      writing-reads l = elim (decLt i (length role)) [
-        | yes h ↦ h
-        | no h ↦
-            let z : rest ≡ [] =
-            ap (carriedBy (goneRow to first) (newRow to first))
-            (drop-of-length-le (pairsOf role row) {i = i} (omega (arith, length-pairs role row (s .pairs .even)))) in
-            absurd (omega (arith, w .many, lengths, ap length z))
-      ]
+      writing-reads l = omega (arith, writing-ahead)
 
       -- and places to write it
       pub writing-room : n < left → (n < length outRole) × (n < length outRow)
@@ -201,3 +195,89 @@ module _ (role row : List ℕ) (old first : ℕ) (moved : ℤ) (to left : ℕ) (
             row-is = rw (← d) (begins-all (length-rows (doneOf role row to first i) ∙ k)
                 (subst (λ (m : ℕ). Begins (rowsOf (doneOf role row to first i)) oldRow left m outRow) y (w .rows)));
           }
+
+-- ── a few pairs ──
+-- at most one place more
+at-most : (n : ℕ) (b : Bool) → n + cond b 0 1 ≤ n + 1
+at-most n true = omega arith
+at-most n false = omega arith
+
+module _ (role row : List ℕ) (m : Move) (i n : ℕ) (oldRole oldRow : List ℕ) where
+  -- one pair
+  pub put-one : (v : ℕ) → pos v ≡ rowAfter (m .first) (m .moved) (at row i)
+      → Puts 1 role row m i n oldRole oldRow (n + cond (goneRow (m .to) (m .first) (at row i)) 0 1)
+      (set oldRole n (at role i)) (set oldRow n v)
+  unfolding put puts
+  put-one v e =
+      let z : i + 0 ≡ i = omega arith in
+      let x : v ≡ natAbs (rowAfter (m .first) (m .moved) (at row i)) = ap natAbs e in
+      record {
+        all = rw (z, ← x);
+        most = at-most n (goneRow (m .to) (m .first) (at row i));
+      }
+
+  -- one pair more
+  pub put-more : {k a b : ℕ} {midRole midRow newRole newRow : List ℕ}
+      → Puts k role row m i n oldRole oldRow a midRole midRow
+      → Puts 1 role row m (i + k) a midRole midRow b newRole newRow
+      → Puts (suc k) role row m i n oldRole oldRow b newRole newRow
+  unfolding put puts
+  put-more {k} {a} {b} {midRole} {midRow} {newRole} {newRow} h g =
+      let z : i + k + 0 ≡ i + k = omega arith in
+      record {
+        all = g .all ∙ ap (λ (j : ℕ). put role row m j (filled midRole midRow a)) z
+            ∙ ap (put role row m (i + k)) (h .all);
+        most = omega (arith, g .most, h .most);
+      }
+
+-- ── a few pairs of all ──
+module _ (role row : List ℕ) (m : Move) (left : ℕ) (oldRole oldRow : List ℕ)
+    (s : Ready role row (m .old) (m .first) (m .moved) (m .to) left oldRole oldRow)
+    {outRole outRow : List ℕ} {n i : ℕ}
+    (w : Writing role row (m .to) (m .first) left oldRole oldRow outRole outRow n i) where
+  -- while k are left there is room for k
+  pub writing-fits : (k : ℕ) → n + k ≤ left → Room k role row m i n outRole outRow
+  writing-fits k l = record {
+    few = s .few;
+    pairs = s .pairs;
+    move = s .move;
+    read = omega (arith, writing-ahead role row (m .old) (m .first) (m .moved) (m .to) left oldRole oldRow s w);
+    roles = omega (arith, s .roles, w .roles .long);
+    rows = omega (arith, s .rows, w .rows .long);
+  }
+
+  -- what is written is the row's new number
+  new-row : (v : ℕ) → pos (natAbs (rowAfter (m .first) (m .moved) v)) ≡ rowAfter (m .first) (m .moved) v
+  new-row v =
+      let e = row-to (m .old) (m .first) (m .moved) (m .to) (s .move) (s .lands) v in
+      ap (λ (z : ℤ). pos (natAbs z)) e ∙ sym e
+
+  -- the columns with k pairs more
+  after : ℕ → Filled
+  after k = puts k role row m i (filled outRole outRow n)
+
+  -- more is done
+  puts-writing : (k : ℕ) → n + k ≤ left
+      → Writing role row (m .to) (m .first) left oldRole oldRow (after k .role) (after k .row) (after k .next) (i + k)
+      × (after k .next ≤ n + k)
+  unfolding put puts after
+  puts-writing zero l =
+      let z : i + 0 ≡ i = omega arith in
+      (rw z w, omega arith)
+  puts-writing (suc k) l =
+      let (h, a) = puts-writing k (omega arith) in
+      let z : i + suc k ≡ i + k + 1 = omega arith in (
+        rw z (writing-more role row (m .old) (m .first) (m .moved) (m .to) left oldRole oldRow s h _
+            (new-row (at row (i + k))) (omega arith)),
+        omega (arith, a, at-most (after k .next) (goneRow (m .to) (m .first) (at row (i + k)))),
+      )
+
+  -- whatever the columns and the next place are called
+  pub writing-puts : {k r : ℕ} {newRole newRow : List ℕ} → n + k ≤ left
+      → Puts k role row m i n outRole outRow r newRole newRow
+      → Writing role row (m .to) (m .first) left oldRole oldRow newRole newRow r (i + k)
+  unfolding after
+  writing-puts {k} l h =
+      subst (λ (f : Filled). Writing role row (m .to) (m .first) left oldRole oldRow
+      (f .role) (f .row) (f .next) (i + k))
+      (sym (h .all)) (puts-writing k l .0)

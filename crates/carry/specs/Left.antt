@@ -1,16 +1,18 @@
--- How many pairs stay, and what the function that writes them asks for and leaves. No contract of an entry point cites
+-- How many pairs stay, and what the functions that write them ask for and leave. No contract of an entry point cites
 -- it. Assumes nothing.
 use mathlib.Core.Path.{_≡_}
 use mathlib.Core.Bool.{true, cond}
 use mathlib.Core.List.{List, [], _∷_}
-use Prim.Native.Nat.{ℕ, _+_, _≤_}
-use lib.IntN.{ℤ, pos, _+ℤ_}
-use lib.ListN.{length}
-use Rattle.tree.specs.Pairs.{pairsOf, rolesOf, rowsOf}
+use Prim.Native.Nat.{ℕ, zero, suc, _+_, _≤_}
+use lib.IntN.{ℤ, pos, natAbs, _+ℤ_}
+use lib.ListN.{length, take, drop, set}
+use Rattle.tree.specs.Table.{at}
+use Rattle.tree.specs.Pairs.{Pair, pairsOf, rolesOf, rowsOf}
 use Rattle.tree.specs.StepRules.{PairsFit}
 use Rattle.tree.specs.Outcome.{overwritten}
-use Rattle.tree.specs.Carry.{carried, moveOk}
-use Rattle.tree.specs.CarryRules.{goneRow}
+use Rattle.tree.specs.Carry.{rowAfter, carriedBy, carried, moveOk}
+use Rattle.tree.specs.CarryRules.{newRow, goneRow}
+use Rattle.carry.specs.declared.pairs.Move.{Move}
 
 -- how many of these rows stay
 unfoldable pub leftOf : ℕ → ℕ → List ℕ → ℕ
@@ -31,3 +33,60 @@ pub record Ready (role row : List ℕ) (old first : ℕ) (moved : ℤ) (to left 
 pub record Carries (role row : List ℕ) (first : ℕ) (moved : ℤ) (oldRole oldRow outRole outRow : List ℕ) : Type 0 where
   pub role-is : outRole ≡ overwritten (rolesOf (carried first moved (pairsOf role row))) oldRole
   pub row-is : outRow ≡ overwritten (rowsOf (carried first moved (pairsOf role row))) oldRow
+
+-- ── a few pairs ──
+-- both result columns, and the next place to write
+pub record Filled : Type 0 where
+  pub role : List ℕ
+  pub row : List ℕ
+  pub next : ℕ
+
+-- the same of its parts
+abbrev pub filled : List ℕ → List ℕ → ℕ → Filled
+filled role row next = record { role = role; row = row; next = next }
+
+-- the pair at place i written to the next place, which counts only where the pair stays
+unfoldable pub put : List ℕ → List ℕ → Move → ℕ → Filled → Filled
+put role row m i s =
+    filled (set (s .role) (s .next) (at role i))
+    (set (s .row) (s .next) (natAbs (rowAfter (m .first) (m .moved) (at row i))))
+    (s .next + cond (goneRow (m .to) (m .first) (at row i)) 0 1)
+
+-- k pairs, from place i on
+unfoldable pub puts : ℕ → List ℕ → List ℕ → Move → ℕ → Filled → Filled
+puts zero role row m i s = s
+puts (suc k) role row m i s = put role row m (i + k) (puts k role row m i s)
+
+-- k pairs from place i on can be read, and written from place n on
+pub record Room (k : ℕ) (role row : List ℕ) (m : Move) (i n : ℕ) (outRole outRow : List ℕ) : Type 0 where
+  pub few : m .old ≤ 4096
+  pub pairs : PairsFit role row (m .old)
+  pub move : moveOk (m .old) (m .first) (m .moved) ≡ true
+  pub read : i + k ≤ length role
+  pub roles : n + k ≤ length outRole
+  pub rows : n + k ≤ length outRow
+
+-- k pairs were written, and the next place is r
+pub record Puts (k : ℕ) (role row : List ℕ) (m : Move) (i n : ℕ) (oldRole oldRow : List ℕ)
+    (r : ℕ) (outRole outRow : List ℕ) : Type 0 where
+  pub all : filled outRole outRow r ≡ puts k role row m i (filled oldRole oldRow n)
+  pub most : r ≤ n + k
+
+-- ── the first places ──
+-- the carried pairs of the first i places
+abbrev pub doneOf : List ℕ → List ℕ → ℕ → ℕ → ℕ → List Pair
+doneOf role row to first i = carriedBy (goneRow to first) (newRow to first) (take i (pairsOf role row))
+
+-- a result column that begins with xs, n in number, and is as it was behind the first `left` places
+pub record Begins (xs old : List ℕ) (left n : ℕ) (new : List ℕ) : Type 0 where
+  pub front : take n new ≡ xs
+  pub behind : drop left new ≡ drop left old
+  pub long : length new ≡ length old
+
+-- the pairs of the first i places that stay, n in number, stand in front of both result columns
+pub record Writing (role row : List ℕ) (to first left : ℕ) (oldRole oldRow outRole outRow : List ℕ) (n i : ℕ)
+    : Type 0 where
+  pub within : i ≤ length role
+  pub many : n ≡ length (doneOf role row to first i)
+  pub roles : Begins (rolesOf (doneOf role row to first i)) oldRole left n outRole
+  pub rows : Begins (rowsOf (doneOf role row to first i)) oldRow left n outRow

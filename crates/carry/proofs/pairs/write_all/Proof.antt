@@ -6,7 +6,8 @@ use lib.ListN.{length}
 use mir.Syntax.{w64}
 use mir.Facts.{toZ-ofZ}
 use Rattle.carry.proofs.LeftLaws.{each-stays}
-use Rattle.carry.proofs.WriteLaws.{Writing, writing-none, writing-reads, writing-room, writing-more, writing-done}
+use Rattle.carry.specs.Left.{Writing}
+use Rattle.carry.proofs.WriteLaws.{writing-none, writing-reads, writing-room, writing-more, writing-done}
 use borrow.Author.Needs.{needs}
 use Rattle.carry.proofs.pairs.write_all.Statement.{statement}
 use Rattle.carry.proofs.pairs.write_all.Tie as tie
