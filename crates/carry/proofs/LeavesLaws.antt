@@ -23,7 +23,7 @@ use Rattle.tree.proofs.AcceptLaws.{next-next}
 use Rattle.tree.proofs.RoleLaws.{pair-passes}
 use Rattle.carry.specs.Leaves.{Leaves}
 use Rattle.carry.specs.Moves.{MovesRow}
-use Rattle.carry.specs.Left.{leftOf, Ready, Carries}
+use Rattle.carry.specs.Left.{moveOf, leftOf, Ready, Carries}
 use Rattle.tree.proofs.MoveLaws.{move-ok}
 use Rattle.carry.proofs.LeftLaws.{left-is}
 
@@ -92,7 +92,7 @@ module _ (role row : List ℕ) (old first : ℕ) (moved : ℤ) (outRole outRow :
 
       -- with room the list is ready to be written
       pub call-ready : left ≤ min (length outRole) (length outRow)
-          → Ready role row old first moved to left outRole outRow
+          → Ready role row (moveOf old first moved to) left outRole outRow
       call-ready h = record {
         few = few role row old first moved e;
         pairs = pairs role row old first moved e;
@@ -105,7 +105,7 @@ module _ (role row : List ℕ) (old first : ℕ) (moved : ℤ) (outRole outRow :
 
       -- and written
       pub leaves-written : {newRole newRow : List ℕ} → left ≤ min (length outRole) (length outRow)
-          → Carries role row first moved outRole outRow newRole newRow
+          → Carries role row (moveOf old first moved to) outRole outRow newRole newRow
           → Leaves (carryOutcome role row old first moved outRole outRow) (Written left) newRole newRow
       unfolding carryOutcome carryIf roomCheck given
       leaves-written h w =

@@ -10,7 +10,7 @@ use Prim.Native.Nat.{ℕ, zero, suc, _+_, _<_, _≤_}
 use native.Mathlib.Numerals.{add-one}
 use native.Mathlib.Omega.{arith}
 use lib.IntN.{ℤ, pos, natAbs}
-use lib.ListN.{length, getD, take, drop, set, length-append, length-drop, length-set, take-append-drop}
+use lib.ListN.{length, take, drop, set, length-append, length-drop, length-set, take-append-drop}
 use lib.Seq.{take-suc, take-suc-set, take-set-le, drop-set-lt}
 use Rattle.tree.specs.Table.{at}
 use Rattle.tree.specs.Pairs.{Pair, pair, pairsOf, rolesOf, rowsOf}
@@ -20,7 +20,7 @@ use Rattle.tree.specs.CarryRules.{newRow, goneRow}
 use Rattle.tree.proofs.CarryLaws.{carried-gone, carried-stays, carried-append, carried-most}
 use Rattle.tree.proofs.PairColumns.{length-roles, length-rows, roles-append, rows-append, length-pairs, pairs-at}
 use Rattle.carry.specs.declared.pairs.Move.{Move}
-use Rattle.carry.specs.Left.{leftOf, Ready, Carries, doneOf, Begins, Writing}
+use Rattle.carry.specs.Left.{Ready, Carries, doneOf, Begins, Writing}
 use Rattle.carry.specs.Left.{Filled, filled, put, puts, Room, Puts}
 use Rattle.carry.proofs.LeftLaws.{left-carried, row-to, carried-to}
 
@@ -73,17 +73,24 @@ no-pairs [] e = refl
 no-pairs (p ∷ ps) e = absurd (omega arith)
 
 -- ── all pairs ──
-module _ (role row : List ℕ) (old first : ℕ) (moved : ℤ) (to left : ℕ) (oldRole oldRow : List ℕ)
-    (s : Ready role row old first moved to left oldRole oldRow) where
+module _ (role row : List ℕ) (m : Move) (left : ℕ) (oldRole oldRow : List ℕ)
+    (s : Ready role row m left oldRole oldRow) where
+  -- which rows go, and where the others stand
+  abbrev gone : ℕ → Bool
+  gone = goneRow (m .to) (m .first)
+
+  abbrev new : ℕ → ℕ
+  new = newRow (m .to) (m .first)
+
   -- the whole list
   abbrev all : List Pair
-  all = carriedBy (goneRow to first) (newRow to first) (pairsOf role row)
+  all = carriedBy gone new (pairsOf role row)
 
   all-left : length all ≡ left
-  all-left = left-carried to first role row (s .pairs .even) ∙ sym (s .many)
+  all-left = left-carried (m .to) (m .first) role row (s .pairs .even) ∙ sym (s .many)
 
   -- nothing yet
-  pub writing-none : Writing role row to first left oldRole oldRow oldRole oldRow 0 0
+  pub writing-none : Writing role row m left oldRole oldRow oldRole oldRow 0 0
   unfolding carriedBy rolesOf rowsOf
   writing-none = record {
     within = omega arith;
@@ -92,19 +99,19 @@ module _ (role row : List ℕ) (old first : ℕ) (moved : ℤ) (to left : ℕ) (
     rows = record { front = refl; behind = refl; long = refl };
   }
 
-  module _ {outRole outRow : List ℕ} {n i : ℕ} (w : Writing role row to first left oldRole oldRow outRole outRow n i)
+  module _ {outRole outRow : List ℕ} {n i : ℕ} (w : Writing role row m left oldRole oldRow outRole outRow n i)
     where
       -- what is done and what is to come
       abbrev rest : List Pair
-      rest = carriedBy (goneRow to first) (newRow to first) (drop i (pairsOf role row))
+      rest = carriedBy gone new (drop i (pairsOf role row))
 
-      split : all ≡ doneOf role row to first i ++ rest
+      split : all ≡ doneOf role row m i ++ rest
       split =
-          ap (carriedBy (goneRow to first) (newRow to first)) (sym (take-append-drop i (pairsOf role row)))
-          ∙ carried-append (goneRow to first) (newRow to first) (take i (pairsOf role row)) (drop i (pairsOf role row))
+          ap (carriedBy gone new) (sym (take-append-drop i (pairsOf role row)))
+          ∙ carried-append gone new (take i (pairsOf role row)) (drop i (pairsOf role row))
 
-      lengths : length (doneOf role row to first i) + length rest ≡ left
-      lengths = sym (length-append (doneOf role row to first i) rest) ∙ ap length (sym split) ∙ all-left
+      lengths : length (doneOf role row m i) + length rest ≡ left
+      lengths = sym (length-append (doneOf role row m i) rest) ∙ ap length (sym split) ∙ all-left
 
       -- no more are written than there are
       pub writing-most : n ≤ left
@@ -118,7 +125,7 @@ module _ (role row : List ℕ) (old first : ℕ) (moved : ℤ) (to left : ℕ) (
             w .many,
             w .within,
             lengths,
-            carried-most (goneRow to first) (newRow to first) (drop i (pairsOf role row)),
+            carried-most gone new (drop i (pairsOf role row)),
             length-drop i (pairsOf role row),
             length-pairs role row (s .pairs .even),
           )
@@ -132,44 +139,44 @@ module _ (role row : List ℕ) (old first : ℕ) (moved : ℤ) (to left : ℕ) (
       writing-room l = (omega (arith, s .roles, w .roles .long), omega (arith, s .rows, w .rows .long))
 
       -- one place more
-      next-done : i < length role → doneOf role row to first (i + 1)
-          ≡ cond (goneRow to first (at row i)) (doneOf role row to first i)
-          (doneOf role row to first i ++ (pair (at role i) (newRow to first (at row i)) ∷ []))
+      next-done : i < length role → doneOf role row m (i + 1)
+          ≡ cond (gone (at row i)) (doneOf role row m i)
+          (doneOf role row m i ++ (pair (at role i) (new (at row i)) ∷ []))
       unfolding carriedBy
       next-done l =
-          ap (λ (k : ℕ). doneOf role row to first k) (add-one i)
-          ∙ ap (carriedBy (goneRow to first) (newRow to first)) (take-suc (pairsOf role row) i (pair 0 0)
+          ap (λ (k : ℕ). doneOf role row m k) (add-one i)
+          ∙ ap (carriedBy gone new) (take-suc (pairsOf role row) i (pair 0 0)
           (omega (arith, length-pairs role row (s .pairs .even))))
-          ∙ carried-append (goneRow to first) (newRow to first) (take i (pairsOf role row)) _
-          ∙ ap (λ (p : Pair). doneOf role row to first i
-          ++ carriedBy (goneRow to first) (newRow to first) (p ∷ []))
+          ∙ carried-append gone new (take i (pairsOf role row)) _
+          ∙ ap (λ (p : Pair). doneOf role row m i
+          ++ carriedBy gone new (p ∷ []))
           (pairs-at role row i l (omega (arith, s .pairs .even)))
-          ∙ one (goneRow to first (at row i)) refl
+          ∙ one (gone (at row i)) refl
         where
-          one : (b : Bool) → goneRow to first (at row i) ≡ b
-              → doneOf role row to first i
-              ++ carriedBy (goneRow to first) (newRow to first) (pair (at role i) (at row i) ∷ [])
-              ≡ cond b (doneOf role row to first i)
-              (doneOf role row to first i ++ (pair (at role i) (newRow to first (at row i)) ∷ []))
+          one : (b : Bool) → gone (at row i) ≡ b
+              → doneOf role row m i
+              ++ carriedBy gone new (pair (at role i) (at row i) ∷ [])
+              ≡ cond b (doneOf role row m i)
+              (doneOf role row m i ++ (pair (at role i) (new (at row i)) ∷ []))
           one true e =
-              ap (λ (ps : List Pair). doneOf role row to first i ++ ps)
-              (carried-gone (goneRow to first) (newRow to first) (pair (at role i) (at row i)) [] e)
-              ∙ append-nil (doneOf role row to first i)
-          one false e = ap (λ (ps : List Pair). doneOf role row to first i ++ ps)
-              (carried-stays (goneRow to first) (newRow to first) (pair (at role i) (at row i)) [] e)
+              ap (λ (ps : List Pair). doneOf role row m i ++ ps)
+              (carried-gone gone new (pair (at role i) (at row i)) [] e)
+              ∙ append-nil (doneOf role row m i)
+          one false e = ap (λ (ps : List Pair). doneOf role row m i ++ ps)
+              (carried-stays gone new (pair (at role i) (at row i)) [] e)
 
       -- the pair at place i written to place n, which counts only where the pair stays
-      pub writing-more : (v : ℕ) → pos v ≡ rowAfter first moved (at row i) → n < left
-          → Writing role row to first left oldRole oldRow (set outRole n (at role i)) (set outRow n v)
-          (n + cond (goneRow to first (at row i)) 0 1) (i + 1)
+      pub writing-more : (v : ℕ) → pos v ≡ rowAfter (m .first) (m .moved) (at row i) → n < left
+          → Writing role row m left oldRole oldRow (set outRole n (at role i)) (set outRow n v)
+          (n + cond (gone (at row i)) 0 1) (i + 1)
       writing-more v e l =
-          let done : List Pair = doneOf role row to first i in
-          let b : Bool = goneRow to first (at row i) in
-          let p : Pair = pair (at role i) (newRow to first (at row i)) in
-          let m : i < length role = writing-reads l in
-          let q : pos v ≡ pos (newRow to first (at row i)) = e ∙ row-to old first moved to (s .move) (s .lands) (at row i) in
-          let x : v ≡ newRow to first (at row i) = cc in
-          let d : cond b done (done ++ (p ∷ [])) ≡ doneOf role row to first (i + 1) = sym (next-done m) in
+          let done : List Pair = doneOf role row m i in
+          let b : Bool = gone (at row i) in
+          let p : Pair = pair (at role i) (new (at row i)) in
+          let r : i < length role = writing-reads l in
+          let q : pos v ≡ pos (new (at row i)) = e ∙ row-to (m .old) (m .first) (m .moved) (m .to) (s .move) (s .lands) (at row i) in
+          let x : v ≡ new (at row i) = cc in
+          let d : cond b done (done ++ (p ∷ [])) ≡ doneOf role row m (i + 1) = sym (next-done r) in
           rw x (record {
             within = omega arith;
             many = ap (λ (k : ℕ). k + cond b 0 1) (w .many) ∙ length-one b done p ∙ ap length d;
@@ -180,20 +187,20 @@ module _ (role row : List ℕ) (old first : ℕ) (moved : ℤ) (to left : ℕ) (
           })
 
       -- all of them
-      pub writing-done : left ≤ n → Carries role row first moved oldRole oldRow outRole outRow
+      pub writing-done : left ≤ n → Carries role row m oldRole oldRow outRole outRow
       writing-done l =
           let z : length rest ≡ 0 = omega (arith, w .many, lengths) in
           let y : n ≡ left = omega (arith, w .many, lengths) in
-          let d : doneOf role row to first i ≡ carried first moved (pairsOf role row) =
-          sym (split ∙ ap (λ (ps : List Pair). doneOf role row to first i ++ ps) (no-pairs rest z)
-          ∙ append-nil (doneOf role row to first i))
-          ∙ sym (carried-to old first moved to (s .move) (s .lands) (pairsOf role row)) in
-          let k : length (doneOf role row to first i) ≡ left = sym (w .many) ∙ y in
+          let d : doneOf role row m i ≡ carried (m .first) (m .moved) (pairsOf role row) =
+          sym (split ∙ ap (λ (ps : List Pair). doneOf role row m i ++ ps) (no-pairs rest z)
+          ∙ append-nil (doneOf role row m i))
+          ∙ sym (carried-to (m .old) (m .first) (m .moved) (m .to) (s .move) (s .lands) (pairsOf role row)) in
+          let k : length (doneOf role row m i) ≡ left = sym (w .many) ∙ y in
           record {
-            role-is = rw (← d) (begins-all (length-roles (doneOf role row to first i) ∙ k)
-                (subst (λ (m : ℕ). Begins (rolesOf (doneOf role row to first i)) oldRole left m outRole) y (w .roles)));
-            row-is = rw (← d) (begins-all (length-rows (doneOf role row to first i) ∙ k)
-                (subst (λ (m : ℕ). Begins (rowsOf (doneOf role row to first i)) oldRow left m outRow) y (w .rows)));
+            role-is = rw (← d) (begins-all (length-roles (doneOf role row m i) ∙ k)
+                (subst (λ (j : ℕ). Begins (rolesOf (doneOf role row m i)) oldRole left j outRole) y (w .roles)));
+            row-is = rw (← d) (begins-all (length-rows (doneOf role row m i) ∙ k)
+                (subst (λ (j : ℕ). Begins (rowsOf (doneOf role row m i)) oldRow left j outRow) y (w .rows)));
           }
 
 -- ── a few pairs ──
@@ -232,16 +239,15 @@ module _ (role row : List ℕ) (m : Move) (i n : ℕ) (oldRole oldRow : List ℕ
 
 -- ── a few pairs of all ──
 module _ (role row : List ℕ) (m : Move) (left : ℕ) (oldRole oldRow : List ℕ)
-    (s : Ready role row (m .old) (m .first) (m .moved) (m .to) left oldRole oldRow)
-    {outRole outRow : List ℕ} {n i : ℕ}
-    (w : Writing role row (m .to) (m .first) left oldRole oldRow outRole outRow n i) where
+    (s : Ready role row m left oldRole oldRow) {outRole outRow : List ℕ} {n i : ℕ}
+    (w : Writing role row m left oldRole oldRow outRole outRow n i) where
   -- while k are left there is room for k
   pub writing-fits : (k : ℕ) → n + k ≤ left → Room k role row m i n outRole outRow
   writing-fits k l = record {
     few = s .few;
     pairs = s .pairs;
     move = s .move;
-    read = omega (arith, writing-ahead role row (m .old) (m .first) (m .moved) (m .to) left oldRole oldRow s w);
+    read = omega (arith, writing-ahead role row m left oldRole oldRow s w);
     roles = omega (arith, s .roles, w .roles .long);
     rows = omega (arith, s .rows, w .rows .long);
   }
@@ -258,7 +264,7 @@ module _ (role row : List ℕ) (m : Move) (left : ℕ) (oldRole oldRow : List �
 
   -- more is done
   puts-writing : (k : ℕ) → n + k ≤ left
-      → Writing role row (m .to) (m .first) left oldRole oldRow (after k .role) (after k .row) (after k .next) (i + k)
+      → Writing role row m left oldRole oldRow (after k .role) (after k .row) (after k .next) (i + k)
       × (after k .next ≤ n + k)
   unfolding put puts after
   puts-writing zero l =
@@ -267,7 +273,7 @@ module _ (role row : List ℕ) (m : Move) (left : ℕ) (oldRole oldRow : List �
   puts-writing (suc k) l =
       let (h, a) = puts-writing k (omega arith) in
       let z : i + suc k ≡ i + k + 1 = omega arith in (
-        rw z (writing-more role row (m .old) (m .first) (m .moved) (m .to) left oldRole oldRow s h _
+        rw z (writing-more role row m left oldRole oldRow s h _
             (new-row (at row (i + k))) (omega arith)),
         omega (arith, a, at-most (after k .next) (goneRow (m .to) (m .first) (at row (i + k)))),
       )
@@ -275,9 +281,9 @@ module _ (role row : List ℕ) (m : Move) (left : ℕ) (oldRole oldRow : List �
   -- whatever the columns and the next place are called
   pub writing-puts : {k r : ℕ} {newRole newRow : List ℕ} → n + k ≤ left
       → Puts k role row m i n outRole outRow r newRole newRow
-      → Writing role row (m .to) (m .first) left oldRole oldRow newRole newRow r (i + k)
+      → Writing role row m left oldRole oldRow newRole newRow r (i + k)
   unfolding after
   writing-puts {k} l h =
-      subst (λ (f : Filled). Writing role row (m .to) (m .first) left oldRole oldRow
+      subst (λ (f : Filled). Writing role row m left oldRole oldRow
       (f .role) (f .row) (f .next) (i + k))
       (sym (h .all)) (puts-writing k l .0)

@@ -14,25 +14,29 @@ use Rattle.tree.specs.Carry.{rowAfter, carriedBy, carried, moveOk}
 use Rattle.tree.specs.CarryRules.{newRow, goneRow}
 use Rattle.carry.specs.declared.pairs.Move.{Move}
 
+-- the old count, the first moved row, its move and where it went, as one
+abbrev pub moveOf : ℕ → ℕ → ℤ → ℕ → Move
+moveOf old first moved to = record { old = old; first = first; moved = moved; to = to }
+
 -- how many of these rows stay
 unfoldable pub leftOf : ℕ → ℕ → List ℕ → ℕ
 leftOf to first [] = 0
 leftOf to first (w ∷ ws) = cond (goneRow to first w) 0 1 + leftOf to first ws
 
 -- refusals 1, 3 to 5, 17 and 8 do not apply; `to` is where the first moved row went, and so many pairs are left
-pub record Ready (role row : List ℕ) (old first : ℕ) (moved : ℤ) (to left : ℕ) (outRole outRow : List ℕ) : Type 0 where
-  pub few : old ≤ 4096
-  pub pairs : PairsFit role row old
-  pub move : moveOk old first moved ≡ true
-  pub lands : pos first +ℤ moved ≡ pos to
-  pub many : left ≡ leftOf to first row
+pub record Ready (role row : List ℕ) (m : Move) (left : ℕ) (outRole outRow : List ℕ) : Type 0 where
+  pub few : m .old ≤ 4096
+  pub pairs : PairsFit role row (m .old)
+  pub move : moveOk (m .old) (m .first) (m .moved) ≡ true
+  pub lands : pos (m .first) +ℤ m .moved ≡ pos (m .to)
+  pub many : left ≡ leftOf (m .to) (m .first) row
   pub roles : left ≤ length outRole
   pub rows : left ≤ length outRow
 
 -- the new list stands in front of both result columns
-pub record Carries (role row : List ℕ) (first : ℕ) (moved : ℤ) (oldRole oldRow outRole outRow : List ℕ) : Type 0 where
-  pub role-is : outRole ≡ overwritten (rolesOf (carried first moved (pairsOf role row))) oldRole
-  pub row-is : outRow ≡ overwritten (rowsOf (carried first moved (pairsOf role row))) oldRow
+pub record Carries (role row : List ℕ) (m : Move) (oldRole oldRow outRole outRow : List ℕ) : Type 0 where
+  pub role-is : outRole ≡ overwritten (rolesOf (carried (m .first) (m .moved) (pairsOf role row))) oldRole
+  pub row-is : outRow ≡ overwritten (rowsOf (carried (m .first) (m .moved) (pairsOf role row))) oldRow
 
 -- ── a few pairs ──
 -- both result columns, and the next place to write
@@ -74,8 +78,8 @@ pub record Puts (k : ℕ) (role row : List ℕ) (m : Move) (i n : ℕ) (oldRole 
 
 -- ── the first places ──
 -- the carried pairs of the first i places
-abbrev pub doneOf : List ℕ → List ℕ → ℕ → ℕ → ℕ → List Pair
-doneOf role row to first i = carriedBy (goneRow to first) (newRow to first) (take i (pairsOf role row))
+abbrev pub doneOf : List ℕ → List ℕ → Move → ℕ → List Pair
+doneOf role row m i = carriedBy (goneRow (m .to) (m .first)) (newRow (m .to) (m .first)) (take i (pairsOf role row))
 
 -- a result column that begins with xs, n in number, and is as it was behind the first `left` places
 pub record Begins (xs old : List ℕ) (left n : ℕ) (new : List ℕ) : Type 0 where
@@ -84,9 +88,9 @@ pub record Begins (xs old : List ℕ) (left n : ℕ) (new : List ℕ) : Type 0 w
   pub long : length new ≡ length old
 
 -- the pairs of the first i places that stay, n in number, stand in front of both result columns
-pub record Writing (role row : List ℕ) (to first left : ℕ) (oldRole oldRow outRole outRow : List ℕ) (n i : ℕ)
+pub record Writing (role row : List ℕ) (m : Move) (left : ℕ) (oldRole oldRow outRole outRow : List ℕ) (n i : ℕ)
     : Type 0 where
   pub within : i ≤ length role
-  pub many : n ≡ length (doneOf role row to first i)
-  pub roles : Begins (rolesOf (doneOf role row to first i)) oldRole left n outRole
-  pub rows : Begins (rowsOf (doneOf role row to first i)) oldRow left n outRow
+  pub many : n ≡ length (doneOf role row m i)
+  pub roles : Begins (rolesOf (doneOf role row m i)) oldRole left n outRole
+  pub rows : Begins (rowsOf (doneOf role row m i)) oldRow left n outRow

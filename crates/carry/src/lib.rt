@@ -7,6 +7,7 @@ mod checks; // checks.rt: refusals 1, 3 to 5 and 17
 mod moved; // moved.rt: a row after the edit
 mod pairs; // pairs.rt: all pairs
 
+use crate::pairs::Move;
 use tree::Carried;
 use tree::Checked;
 use tree::logic::smaller;
@@ -35,17 +36,13 @@ pub fn carry(
             if smaller(out_role.len(), out_row.len()) < left {
                 return Carried::Refused(8, left);
             }
-            pairs::write(
-                role,
-                row,
-                old_count,
+            let edit = Move {
+                old: old_count,
                 first,
                 moved,
                 to,
-                left,
-                out_role,
-                out_row,
-            );
+            };
+            pairs::write(role, row, edit, left, out_role, out_row);
             Carried::Written(left)
         }
     }

@@ -7,6 +7,14 @@ ghost use Rattle.carry.specs.Left.{leftOf, Ready, Carries, Room, Puts, W
 use super::moved::row_after;
 use super::moved::stays;
 
+// The old count, what the edit answered, and where its first moved row went.
+pub(crate) struct Move {
+    pub old: usize,
+    pub first: usize,
+    pub moved: i64,
+    pub to: usize,
+}
+
 // How many of these rows stay: all of them, where the first moved row does not move towards the front.
 pub(crate) fn count_left(row: &[usize], to: usize, first: usize) -> usize
     ensures { λ r. ⌜ r ≡ leftOf to first (now (row .entry)) ⌝ }
@@ -27,33 +35,22 @@ pub(crate) fn count_left(row: &[usize], to: usize, first: usize) -> usize
 fn write_all(
     role: &[usize],
     row: &[usize],
-    old_count: usize,
-    first: usize,
-    moved: i64,
-    to: usize,
+    edit: Move,
     left: usize,
     out_role: &mut [usize],
     out_row: &mut [usize],
 )
-    requires { ⌜ Ready (now role) (now row) «old_count» first moved to left (now «out_role») (now «out_row») ⌝ }
+    requires { ⌜ Ready (now role) (now row) edit left (now «out_role») (now «out_row») ⌝ }
     requires { ⌜ left ≡ length (now row) ⌝ }
-    ensures { λ _. ⌜ Carries (now (role .entry)) (now (row .entry)) first moved
+    ensures { λ _. ⌜ Carries (now (role .entry)) (now (row .entry)) edit
         (now («out_role» .entry)) (now («out_row» .entry)) (now («out_role» .exit)) (now («out_row» .exit)) ⌝ }
 {
     let mut i = 0;
     while i < left {
         out_role[i] = role[i];
-        out_row[i] = row_after(old_count, first, moved, row[i]);
+        out_row[i] = row_after(edit.old, edit.first, edit.moved, row[i]);
         i += 1;
     }
-}
-
-// The old count, what the edit answered, and where its first moved row went.
-struct Move {
-    old: usize,
-    first: usize,
-    moved: i64,
-    to: usize,
 }
 
 // How many pairs were read, and how many of them stay and were written.
@@ -111,9 +108,8 @@ fn write_fours(
     out_role: &mut [usize],
     out_row: &mut [usize],
 ) -> Reached
-    requires { ⌜ Ready (now role) (now row) (edit .old) (edit .first) (edit .moved) (edit .to) left
-        (now «out_role») (now «out_row») ⌝ }
-    ensures { λ r. ⌜ Writing (now (role .entry)) (now (row .entry)) (edit .to) (edit .first) left
+    requires { ⌜ Ready (now role) (now row) edit left (now «out_role») (now «out_row») ⌝ }
+    ensures { λ r. ⌜ Writing (now (role .entry)) (now (row .entry)) edit left
         (now («out_role» .entry)) (now («out_row» .entry)) (now («out_role» .exit)) (now («out_row» .exit))
         (r .written) (r .read) ⌝ }
 {
@@ -133,24 +129,15 @@ fn write_fours(
 fn write_left(
     role: &[usize],
     row: &[usize],
-    old_count: usize,
-    first: usize,
-    moved: i64,
-    to: usize,
+    edit: Move,
     left: usize,
     out_role: &mut [usize],
     out_row: &mut [usize],
 )
-    requires { ⌜ Ready (now role) (now row) «old_count» first moved to left (now «out_role») (now «out_row») ⌝ }
-    ensures { λ _. ⌜ Carries (now (role .entry)) (now (row .entry)) first moved
+    requires { ⌜ Ready (now role) (now row) edit left (now «out_role») (now «out_row») ⌝ }
+    ensures { λ _. ⌜ Carries (now (role .entry)) (now (row .entry)) edit
         (now («out_role» .entry)) (now («out_row» .entry)) (now («out_role» .exit)) (now («out_row» .exit)) ⌝ }
 {
-    let edit = Move {
-        old: old_count,
-        first,
-        moved,
-        to,
-    };
     let reached = write_fours(role, row, edit, left, out_role, out_row);
     let mut n = reached.written;
     let mut i = reached.read;
@@ -164,41 +151,18 @@ fn write_left(
 pub(crate) fn write(
     role: &[usize],
     row: &[usize],
-    old_count: usize,
-    first: usize,
-    moved: i64,
-    to: usize,
+    edit: Move,
     left: usize,
     out_role: &mut [usize],
     out_row: &mut [usize],
 )
-    requires { ⌜ Ready (now role) (now row) «old_count» first moved to left (now «out_role») (now «out_row») ⌝ }
-    ensures { λ _. ⌜ Carries (now (role .entry)) (now (row .entry)) first moved
+    requires { ⌜ Ready (now role) (now row) edit left (now «out_role») (now «out_row») ⌝ }
+    ensures { λ _. ⌜ Carries (now (role .entry)) (now (row .entry)) edit
         (now («out_role» .entry)) (now («out_row» .entry)) (now («out_role» .exit)) (now («out_row» .exit)) ⌝ }
 {
     if left == row.len() {
-        write_all(
-            role,
-            row,
-            old_count,
-            first,
-            moved,
-            to,
-            left,
-            out_role,
-            out_row,
-        );
+        write_all(role, row, edit, left, out_role, out_row);
     } else {
-        write_left(
-            role,
-            row,
-            old_count,
-            first,
-            moved,
-            to,
-            left,
-            out_role,
-            out_row,
-        );
+        write_left(role, row, edit, left, out_role, out_row);
     }
 }

@@ -1,6 +1,6 @@
 -- `carry::pairs::count_left` meets its contract: the rows before place i that stay are counted. Assumes nothing.
 use Prim.Native.Nat.{ℕ, _+_, _≤_, _-_}
-use mathlib.Core.Path.{_≡_, sym, ap, ap₂, _∙_}
+use mathlib.Core.Path.{_≡_, sym, ap₂, _∙_}
 use native.Mathlib.Omega.{arith}
 use lib.ListN.{length, take}
 use Rattle.carry.specs.Left.{leftOf}
@@ -8,8 +8,6 @@ use Rattle.carry.proofs.LeftLaws.{left-none, left-next, left-all, left-
 use borrow.Author.Needs.{needs}
 use Rattle.carry.proofs.pairs.count_left.Statement.{statement}
 use Rattle.carry.proofs.pairs.count_left.Tie as tie
-use Rattle.carry.proofs.pairs.count_left.Reads as reads
-use Rattle.carry.proofs.pairs.count_left.Lts as lts
 
 abbrev Inv-loop : tie.InvT-loop
 Inv-loop row to first left₀ i₀ left i = (i ≤ length row) × (left ≤ i) × (left ≡ leftOf to first (take i row))

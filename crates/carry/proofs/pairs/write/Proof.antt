@@ -1,6 +1,4 @@
 -- `carry::pairs::write` meets its contract: each of the two does. Assumes nothing.
-use mir.Syntax.{w64}
-use mir.Facts.{toZ-ofZ}
 use borrow.Author.Needs.{needs}
 use Rattle.carry.proofs.pairs.write.Statement.{statement}
 use Rattle.carry.proofs.pairs.write.Tie as tie
@@ -18,10 +16,7 @@ same-length-2 : tie.Need-same-length-2
 same-length-2 c = search needs
 
 returns : tie.Need-returns
-returns c =
-    let wrote = c .before .before .before .before in
-    let start = wrote .before .before .before .before .before .before .before .before in
-    rw (toZ-ofZ {w = w64} (start .fits .moved)) at (wrote .write-all .ensures)
+returns c = c .before .before .before .before .write-all .ensures
 
 same-length-3 : tie.Need-same-length-3
 same-length-3 c = search needs
@@ -30,10 +25,7 @@ same-length-4 : tie.Need-same-length-4
 same-length-4 c = search needs
 
 returns-2 : tie.Need-returns-2
-returns-2 c =
-    let wrote = c .before .before .before .before in
-    let start = wrote .before .before .before .before .before .before .before .before in
-    rw (toZ-ofZ {w = w64} (start .fits .moved)) at (wrote .write-left .ensures)
+returns-2 c = c .before .before .before .before .write-left .ensures
 
 pub write-spec : {M : Type 1} → statement M
 write-spec =

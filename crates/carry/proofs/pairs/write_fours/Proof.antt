@@ -9,18 +9,18 @@ use Rattle.carry.proofs.pairs.write_fours.Tie as tie
 
 abbrev Inv-loop : tie.InvT-loop
 Inv-loop role row edit left out-role₀ out-row₀ n₀ i₀ out-role out-row n i =
-    Writing role row (edit .to) (edit .first) left out-role₀ out-row₀ out-role out-row n i
+    Writing role row edit left out-role₀ out-row₀ out-role out-row n i
 
 abbrev μ-loop : tie.MeasureT-loop
 μ-loop role row edit left out-role₀ out-row₀ n₀ i₀ out-role out-row n i = length role - i
 
 loop-holds : tie.Need-loop-holds Inv-loop μ-loop
-loop-holds c = writing-none _ _ _ _ _ _ _ _ _ (c .before .before .before .before .pre)
+loop-holds c = writing-none _ _ _ _ _ _ (c .before .before .before .before .pre)
 
 add-loop : tie.Need-add-loop Inv-loop μ-loop
 add-loop c =
     let pre = c .before .before .before .before .before .pre in
-    omega (arith, writing-most _ _ _ _ _ _ _ _ _ pre (c .loop .inv))
+    omega (arith, writing-most _ _ _ _ _ _ pre (c .loop .inv))
 
 put-four-requires : tie.Need-put-four-requires Inv-loop μ-loop
 put-four-requires c κs =
@@ -34,7 +34,7 @@ add-i c =
     let head = wrote .before .before .before .before in
     let pre = head .before .before .before .before .before .pre in
     let test = wrote .before .before .before .loop-test .taken in
-    omega (arith, writing-ahead _ _ _ _ _ _ _ _ _ pre (head .loop .inv), test)
+    omega (arith, writing-ahead _ _ _ _ _ _ pre (head .loop .inv), test)
 
 loop-less : tie.Need-loop-less Inv-loop μ-loop
 loop-less c =
@@ -42,7 +42,7 @@ loop-less c =
     let head = wrote .before .before .before .before in
     let pre = head .before .before .before .before .before .pre in
     let test = wrote .before .before .before .loop-test .taken in
-    omega (arith, writing-ahead _ _ _ _ _ _ _ _ _ pre (head .loop .inv), test)
+    omega (arith, writing-ahead _ _ _ _ _ _ pre (head .loop .inv), test)
 
 loop-again : tie.Need-loop-again Inv-loop μ-loop
 loop-again c =

@@ -4,35 +4,24 @@
 use Prim.Native.Nat.{ℕ, _-_}
 use mathlib.Core.List.{List}
 use native.Mathlib.Omega.{arith}
-use lib.IntN.{ℤ}
 use lib.ListN.{length}
-use mir.Syntax.{w64}
-use mir.Val.{SFits, toZ, ofZ}
-use mir.Facts.{toZ-ofZ}
 use Rattle.carry.specs.Left.{Ready, Writing}
 use Rattle.carry.proofs.WriteLaws.{writing-ahead, writing-fits, writing-puts, writing-done}
 use Rattle.carry.proofs.pairs.write_left.Statement.{statement}
 use Rattle.carry.proofs.pairs.write_left.Tie as tie
 
--- the move is read back from its bits
-back : {role row outRole outRow : List ℕ} {old first to left : ℕ} {moved : ℤ} → SFits w64 moved
-    → Ready role row old first moved to left outRole outRow
-    → Ready role row old first (toZ w64 (ofZ w64 moved)) to left outRole outRow
-back f h = rw (toZ-ofZ {w = w64} f) h
-
 abbrev Inv-loop : tie.InvT-loop
-Inv-loop role row old-count first moved to left out-role₀ out-row₀ edit n₀ i₀ out-role out-row n i =
-    (oldRole oldRow : List ℕ) → Ready role row (edit .old) (edit .first) (edit .moved) (edit .to) left oldRole oldRow
-    → Writing role row (edit .to) (edit .first) left oldRole oldRow out-role₀ out-row₀ n₀ i₀
-    → Writing role row (edit .to) (edit .first) left oldRole oldRow out-role out-row n i
+Inv-loop role row edit left out-role₀ out-row₀ n₀ i₀ out-role out-row n i =
+    (oldRole oldRow : List ℕ) → Ready role row edit left oldRole oldRow
+    → Writing role row edit left oldRole oldRow out-role₀ out-row₀ n₀ i₀
+    → Writing role row edit left oldRole oldRow out-role out-row n i
 
 abbrev μ-loop : tie.MeasureT-loop
-μ-loop role row old-count first moved to left out-role₀ out-row₀ edit n₀ i₀ out-role out-row n i = length role - i
+μ-loop role row edit left out-role₀ out-row₀ n₀ i₀ out-role out-row n i = length role - i
 
 write-fours-requires : tie.Need-write-fours-requires Inv-loop μ-loop
 write-fours-requires c κs =
-    let start = c .before .before .before .before .before .before in
-    back (start .fits .moved) (start .pre)
+    c .before .before .before .before .before .before .pre
 
 loop-holds : tie.Need-loop-holds Inv-loop μ-loop
 loop-holds c a b s w = w
@@ -42,7 +31,7 @@ put-pair-requires c κs =
     let head = c .before .before .before in
     let wrote = head .before .before .before .before .before in
     let start = wrote .before .before .before .before .before .before .before in
-    let pre = back (start .fits .moved) (start .pre) in
+    let pre = start .pre in
     writing-fits _ _ _ _ _ _ pre (head .loop .inv _ _ pre (wrote .write-fours .ensures)) 1
     (omega (arith, c .before .before .loop-test .taken))
 
@@ -52,10 +41,10 @@ add-i c =
     let head = put .before .before .before .before in
     let wrote = head .before .before .before .before .before in
     let start = wrote .before .before .before .before .before .before .before in
-    let pre = back (start .fits .moved) (start .pre) in
+    let pre = start .pre in
     omega (
       arith,
-      writing-ahead _ _ _ _ _ _ _ _ _ pre (head .loop .inv _ _ pre (wrote .write-fours .ensures)),
+      writing-ahead _ _ _ _ _ _ pre (head .loop .inv _ _ pre (wrote .write-fours .ensures)),
       put .before .before .before .loop-test .taken,
     )
 
@@ -65,10 +54,10 @@ loop-less c =
     let head = put .before .before .before .before in
     let wrote = head .before .before .before .before .before in
     let start = wrote .before .before .before .before .before .before .before in
-    let pre = back (start .fits .moved) (start .pre) in
+    let pre = start .pre in
     omega (
       arith,
-      writing-ahead _ _ _ _ _ _ _ _ _ pre (head .loop .inv _ _ pre (wrote .write-fours .ensures)),
+      writing-ahead _ _ _ _ _ _ pre (head .loop .inv _ _ pre (wrote .write-fours .ensures)),
       put .before .before .before .loop-test .taken,
     )
 
@@ -84,23 +73,23 @@ same-length c =
     let head = c .before in
     let wrote = head .before .before .before .before .before in
     let start = wrote .before .before .before .before .before .before .before in
-    head .loop .inv _ _ (back (start .fits .moved) (start .pre)) (wrote .write-fours .ensures) .roles .long
+    head .loop .inv _ _ (start .pre) (wrote .write-fours .ensures) .roles .long
 
 same-length-2 : tie.Need-same-length-2 Inv-loop μ-loop
 same-length-2 c =
     let head = c .before in
     let wrote = head .before .before .before .before .before in
     let start = wrote .before .before .before .before .before .before .before in
-    head .loop .inv _ _ (back (start .fits .moved) (start .pre)) (wrote .write-fours .ensures) .rows .long
+    head .loop .inv _ _ (start .pre) (wrote .write-fours .ensures) .rows .long
 
 returns : tie.Need-returns Inv-loop μ-loop
 returns c =
     let head = c .before in
     let wrote = head .before .before .before .before .before in
     let start = wrote .before .before .before .before .before .before .before in
-    let pre = back (start .fits .moved) (start .pre) in
+    let pre = start .pre in
     let done = head .loop .inv _ _ pre (wrote .write-fours .ensures) in
-    writing-done _ _ _ _ _ _ _ _ _ (start .pre) done (c .loop-test .left)
+    writing-done _ _ _ _ _ _ pre done (c .loop-test .left)
 
 pub write-left-spec : {M : Type 1} → statement M
 write-left-spec =
