@@ -1,6 +1,6 @@
 -- Step, edit, carry, step. Over an accepted edit carrying takes every list that a step takes, if there is room for it,
--- `carry-takes`: 17 is not given, `no-seventeen`. The next step takes what it leaves at the front of the result columns,
--- as it is, `next-takes`. Assumes nothing.
+-- `carry-takes`: 17 is not given, `no-seventeen`. The next step takes what it leaves at the front of the result
+-- columns, as it is, `next-takes`. Assumes nothing.
 use mathlib.Core.Path.{_≡_, refl, sym, ap, ap₂, subst, _∙_}
 use mathlib.Core.Logic.{⊎-elim}
 use mathlib.Core.Bool.{not, true≢false}
@@ -73,7 +73,8 @@ module _ (a : Act) (t : Table) (d : Done) (e : outcome a t .answer ≡ Made d) (
 
   -- pairs that fit the table, and room for the new list: carrying is accepted
   pub carry-takes : PairsFit role row (t .count) → (outRole outRow : List ℕ) → length newList ≤ length outRole
-      → length newList ≤ length outRow → carryOutcome role row (t .count) (d .first) (d .moved) outRole outRow ≡ record {
+      → length newList ≤ length outRow
+      → carryOutcome role row (t .count) (d .first) (d .moved) outRole outRow ≡ record {
         answer = Written (length newList);
         role = overwritten (rolesOf newList) outRole;
         row = overwritten (rowsOf newList) outRow;

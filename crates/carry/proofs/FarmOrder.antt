@@ -50,7 +50,8 @@ thenDeletes = record { count = 9; first = 4; moved = negsuc 1 }
 pub farm-order : carried 7 (pos 1) (carried 4 (negsuc 1) held) ≡ carried 4 (negsuc 1) (carried 9 (pos 1) held)
 unfolding least someBelow nearest shortest countOk levelOk runOf sizeOf sizeOk kindOk hasName nameOk rowOf keyOk restOk
     rowOk firstBad parent above ancestor given givenAt next tableCheck keyCheck badPiece insertCheck deleteCheck
-    editIf editCheck insertOutcome deleteOutcome opened closed changed gapOf inserted deleted minus insertDone deleteDone
+    editIf editCheck insertOutcome deleteOutcome opened closed changed gapOf inserted deleted minus insertDone
+    deleteDone
 farm-order =
     either-order (deletion 21) (insertion 31 leaf) farm farm-independent held held-inside
     deletes thenInserts inserts thenDeletes refl refl refl refl

@@ -1,7 +1,7 @@
 -- What carrying over an accepted edit means: every pair whose key is still there is found again by its key, and the
--- others are dropped, `carry-refinds`. So each remaining pair names the same key as before, place by place, `same-keys`;
--- a pair is dropped exactly when its key is gone, `dropped-gone`; and each role holds the keys that it held, but for
--- those gone, `grants-stay`. Assumes nothing.
+-- others are dropped, `carry-refinds`. So each remaining pair names the same key as before, place by place,
+-- `same-keys`; a pair is dropped exactly when its key is gone, `dropped-gone`; and each role holds the keys that it
+-- held, but for those gone, `grants-stay`. Assumes nothing.
 use mathlib.Core.Path.{_≡_, refl, sym, ap, ap₂, _∙_}
 use mathlib.Core.Logic.{_↔_}
 use mathlib.Core.Bool.{Bool, true, false, cond, not, true≢false}

@@ -39,7 +39,9 @@ module _ (n : ℕ) (m : ℤ) (l : n ≤ 4096) (k : mag m ≤ 4096) where
 
   -- its two numbers, read back from their bits
   as-read : toZ w64 n +ℤ toZ w64 (ofZ w64 m) ≡ pos n +ℤ m
-  as-read = ap₂ (λ (a b : ℤ). a +ℤ b) (toZ-pos w64 {n = n} (omega arith)) (toZ-ofZ {w = w64} {z = m} (record { sfits = omega arith }))
+  as-read =
+      ap₂ (λ (a b : ℤ). a +ℤ b) (toZ-pos w64 {n = n} (omega arith))
+      (toZ-ofZ {w = w64} {z = m} (record { sfits = omega arith }))
 
   -- so the sum fits
   pub sum-fits : SFits w64 (toZ w64 n +ℤ toZ w64 (ofZ w64 m))

@@ -1,7 +1,7 @@
 -- Two edits in turn. Carrying a list over the one and then over the other is finding it again by its keys in the last
 -- table, `carry-both`, unless the second edit brings a key back that the first deleted: that is another row, and the
--- grant on the old one is gone. So over two edits that may come in either order (demand 3) a list is carried to the same
--- list, `either-order`. Assumes nothing.
+-- grant on the old one is gone. So over two edits that may come in either order (demand 3) a list is carried to the
+-- same list, `either-order`. Assumes nothing.
 use mathlib.Core.Path.{_≡_, refl, sym, ap, ap₂, _∙_}
 use mathlib.Core.Bool.{Bool, true, false, not, _||_, true≢false}
 use mathlib.Core.List.{List}
@@ -60,7 +60,9 @@ refound-twice t u v n ps i =
     go p l false e =
         let g : NoKey v (at (t .key) (p .row)) = n (p .row) l (no-key u (at (t .key) (p .row)) .0 e) in
         let z : ltb (againAt t v (p .row)) (v .count) ≡ false = no-key v (at (t .key) (p .row)) .1 g in
-        (rw (e, z), λ h. absurd (true≢false (sym (ap (λ (b : Bool). not b || not (ltb (againAt u v (againAt t u (p .row))) (v .count))) e) ∙ h)))
+        let y : (not (ltb (againAt t u (p .row)) (u .count))
+        || not (ltb (againAt u v (againAt t u (p .row))) (v .count))) ≡ true = rw e in
+        (rw (e, z), λ h. absurd (true≢false (sym y ∙ h)))
 
 -- the rows that it has are rows of u
 refound-inside : (t u : Table) → Sound u → (ps : List Pair) → Inside u (refound t u ps)

@@ -174,7 +174,8 @@ module _ (role row : List ℕ) (m : Move) (left : ℕ) (oldRole oldRow : List �
           let b : Bool = gone (at row i) in
           let p : Pair = pair (at role i) (new (at row i)) in
           let r : i < length role = writing-reads l in
-          let q : pos v ≡ pos (new (at row i)) = e ∙ row-to (m .old) (m .first) (m .moved) (m .to) (s .move) (s .lands) (at row i) in
+          let q : pos v ≡ pos (new (at row i)) =
+          e ∙ row-to (m .old) (m .first) (m .moved) (m .to) (s .move) (s .lands) (at row i) in
           let x : v ≡ new (at row i) = cc in
           let d : cond b done (done ++ (p ∷ [])) ≡ doneOf role row m (i + 1) = sym (next-done r) in
           rw x (record {

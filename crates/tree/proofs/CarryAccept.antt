@@ -89,7 +89,8 @@ carry-accepted role row old first moved outRole outRow h =
 -- ── the new list ──
 module _ (old first : ℕ) (moved : ℤ) (h : MoveFits old first moved) where
   -- the new list in row numbers
-  pub carried-is : (ps : List Pair) → carried first moved ps ≡ carriedBy (goneRow (h .to) first) (newRow (h .to) first) ps
+  pub carried-is : (ps : List Pair)
+      → carried first moved ps ≡ carriedBy (goneRow (h .to) first) (newRow (h .to) first) ps
   unfolding carried
   carried-is ps =
       carried-same _ _ _ _ ps

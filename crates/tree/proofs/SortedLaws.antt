@@ -1,5 +1,5 @@
--- Pairs that do not fall (`Sorted`): a list of columns that pass refusal 4 is sorted, `sorted-there`, and the columns of
--- a sorted list pass it, `sorted-back`. Assumes nothing.
+-- Pairs that do not fall (`Sorted`): a list of columns that pass refusal 4 is sorted, `sorted-there`, and the columns
+-- of a sorted list pass it, `sorted-back`. Assumes nothing.
 use mathlib.Core.Path.{_≡_, refl, sym, ap, _∙_}
 use mathlib.Core.Logic.{_⊎_, inl, inr, ⊎-elim}
 use mathlib.Core.Bool.{Bool, true, false, _&&_}
@@ -56,7 +56,8 @@ before-not p q (inr h) =
 
 -- in order at every place but the first
 abbrev pub InOrder : List ℕ → List ℕ → Type 0
-InOrder role row = (i : ℕ) → suc i < length role → before (at role (suc i)) (at row (suc i)) (at role i) (at row i) ≡ false
+InOrder role row =
+    (i : ℕ) → suc i < length role → before (at role (suc i)) (at row (suc i)) (at role i) (at row i) ≡ false
 
 -- the test at a place behind the first
 pub order-at : (role row : List ℕ) (i : ℕ) → outOfOrder role row (suc i)

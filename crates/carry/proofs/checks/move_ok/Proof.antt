@@ -10,7 +10,8 @@ use lib.Signed.{mag, ltZ, leZ}
 use mir.Syntax.{w64}
 use mir.Val.{SFits, toZ, ofZ}
 use mir.Facts.{toZ-ofZ}
-use Rattle.carry.proofs.SignedLaws.{sum-fits, sum-is, small-move, refused-otherwise, far-down, far-up, same-tests}
+use Rattle.carry.proofs.SignedLaws.{sum-fits, sum-is, small-move, refused-otherwise, far-down, far-up}
+use Rattle.carry.proofs.SignedLaws.{same-tests}
 use borrow.Author.Needs.{needs}
 use Rattle.carry.proofs.checks.move_ok.Statement.{statement}
 use Rattle.carry.proofs.checks.move_ok.Tie as tie

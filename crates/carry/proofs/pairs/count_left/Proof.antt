@@ -42,7 +42,8 @@ loop-less c = search needs
 loop-again : tie.Need-loop-again Inv-loop μ-loop
 loop-again c =
     let head = c .before .before .before in
-    let here = left-next _ _ (head .before .before .before .args .row .now) (head .loop .i) (c .before .before .loop-test .taken) in (
+    let row = head .before .before .before .args .row .now in
+    let here = left-next _ _ row (head .loop .i) (c .before .before .loop-test .taken) in (
       search needs,
       omega (arith, c .stays .ensures .1, head .loop .inv .1),
       ap₂ (λ (a b : ℕ). a + b) (head .loop .inv .2) (c .stays .ensures .0) ∙ sym here,
