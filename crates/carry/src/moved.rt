@@ -28,7 +28,7 @@ pub(crate) fn row_after(old_count: usize, first: usize, moved: i64, row: usize) 
     moved_to(old_count, first, moved, row)
 }
 
-// 0 for a row that was deleted, 1 for any other: the deleted ones stood from the row to on and before the first moved
+// 0 for a row that was deleted, 1 for any other: the deleted ones stood from the row `to` on and before the first moved
 // row.
 pub(crate) fn stays(to: usize, first: usize, row: usize) -> usize
     ensures counted { λ r. ⌜ r ≡ cond (goneRow to first row) 0 1 ⌝ }
