@@ -1,6 +1,6 @@
 -- Step, edit, carry, step. Over an accepted edit carrying takes every list that a step takes, if there is room for it,
 -- `carry-takes`: 17 is not given, `no-seventeen`. The next step takes what it leaves at the front of the result
--- columns, as it is, `next-takes`. Assumes nothing.
+-- columns, as it is, `next-takes`: only 6, 7 and 8 can refuse it, `next-step`. Assumes nothing.
 use mathlib.Core.Path.{_≡_, refl, sym, ap, ap₂, subst, _∙_}
 use mathlib.Core.Logic.{⊎-elim}
 use mathlib.Core.Bool.{not, true≢false}
@@ -12,15 +12,16 @@ use lib.Seq.{take-append-seam}
 use Rattle.tree.specs.Table.{Table}
 use Rattle.tree.specs.Pairs.{Pair, pairsOf, rolesOf, rowsOf}
 use Rattle.tree.specs.StepRules.{PairsFit}
-use Rattle.tree.specs.Refusal.{givenAt, pairCheck, roomCheck}
-use Rattle.tree.specs.Outcome.{overwritten}
+use Rattle.tree.specs.Refusal.{givenAt, next, pairCheck, askCheck, roomCheck}
+use Rattle.tree.specs.Step.{Ask, stepList}
+use Rattle.tree.specs.Outcome.{overwritten, stepCheck}
 use Rattle.tree.specs.Carry.{carried, carryIf, carryCheck, carryOutcome}
 use Rattle.tree.specs.declared.Checked.{Checked}
 use Rattle.tree.specs.declared.Checked.the-variants.{Passed, Refused}
 use Rattle.tree.specs.declared.Done.{Done}
 use Rattle.tree.specs.declared.Edited.the-variants.{Made}
 use Rattle.tree.specs.declared.Carried.the-variants.{Written, Refused as NotCarried}
-use Rattle.tree.proofs.SoundLaws.{next-first}
+use Rattle.tree.proofs.SoundLaws.{next-first, table-passes}
 use Rattle.tree.proofs.FindLaws.{given-refused}
 use Rattle.tree.proofs.RoleLaws.{pair-passes}
 use Rattle.tree.proofs.MoveLaws.{move-ok}
@@ -28,6 +29,7 @@ use Rattle.tree.proofs.PairColumns.{pairs-columns, length-roles, length-rows}
 use Rattle.tree.proofs.CarryAccept.{carry-accepted, carried-fits}
 use Rattle.commute.specs.Act.{Act, outcome}
 use Rattle.commute.proofs.ActLaws.{accepted-fits}
+use Rattle.commute.proofs.FoundAgain.{edited-sound}
 use Rattle.carry.proofs.MoveLaws.{edit-moves}
 
 module _ (a : Act) (t : Table) (d : Done) (e : outcome a t .answer ≡ Made d) (role row : List ℕ) where
@@ -108,3 +110,13 @@ module _ (a : Act) (t : Table) (d : Done) (e : outcome a t .answer ≡ Made d) (
         rw (r, w) (pair-passes _ _ _ .1 (subst (PairsFit (rolesOf newList) (rowsOf newList)) (m .count)
             (carried-fits (t .count) (d .first) (d .moved) (m .fits) role row f))),
       )
+
+  -- so of that step only the codes and the room are left to check: 6, 7 and 8
+  pub next-step : PairsFit role row (t .count) → (outRole outRow : List ℕ) (q : Ask) (stepRole stepRow : List ℕ)
+      → stepCheck (outcome a t .table) (take (length newList) (overwritten (rolesOf newList) outRole))
+      (take (length newList) (overwritten (rowsOf newList) outRow)) q stepRole stepRow
+      ≡ next (askCheck q) (roomCheck (length (stepList (outcome a t .table) q newList)) stepRole stepRow)
+  unfolding stepCheck next
+  next-step f outRole outRow q stepRole stepRow =
+      let (same, fits) = next-takes f outRole outRow in
+      rw (table-passes (outcome a t .table) .1 (edited-sound a t (d, e)), fits, same)

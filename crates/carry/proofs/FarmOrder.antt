@@ -1,12 +1,13 @@
 -- The theorems on carrying are not empty: pairs of the small farm over M9 and M10, in either order, are carried to the
--- same list, `farm-order`, which is (5,1), (7,4), (7,8), `farm-carried`. Assumes nothing.
+-- same list, `farm-order`, which is (5,1), (7,4), (7,8), `farm-carried`. Over a deletion and an insertion that brings
+-- the key back the grant is gone, `farm-back`. Assumes nothing.
 use mathlib.Core.Path.{_≡_, refl}
 use mathlib.Core.Logic.{inl, inr}
 use mathlib.Core.List.{List, [], _∷_}
 use native.Mathlib.Omega.{arith}
 use lib.IntN.{pos, negsuc}
 use Rattle.tree.specs.Search.{least, someBelow, nearest}
-use Rattle.tree.specs.Table.{shortest, countOk}
+use Rattle.tree.specs.Table.{Table, tableOf, shortest, countOk}
 use Rattle.tree.specs.Sound.{levelOk, runOf, sizeOf, sizeOk, kindOk, hasName, nameOk, rowOf, keyOk, restOk, rowOk}
 use Rattle.tree.specs.Sound.{firstBad}
 use Rattle.tree.specs.Tree.{parent, above, ancestor}
@@ -18,7 +19,9 @@ use Rattle.tree.specs.Carry.{wasDeleted, carriedBy, carried}
 use Rattle.tree.specs.declared.Done.{Done}
 use Rattle.tree.proofs.FarmCalls.{farm, leaf}
 use Rattle.commute.specs.Act.{deletion, insertion}
+use Rattle.commute.specs.Independent.{inTurn}
 use Rattle.commute.proofs.FarmPair.{farm-independent}
+use Rattle.carry.specs.Refound.{refound}
 use Rattle.carry.proofs.GrantLaws.{Inside}
 use Rattle.carry.proofs.TurnLaws.{either-order}
 
@@ -60,3 +63,16 @@ farm-order =
 pub farm-carried : carried 7 (pos 1) (carried 4 (negsuc 1) held) ≡ pair 5 1 ∷ pair 7 4 ∷ pair 7 8 ∷ []
 unfolding carried carriedBy wasDeleted
 farm-carried = refl
+
+-- a blade under a key that was deleted before
+abbrev blade : Table
+blade = tableOf (21 ∷ []) (0 ∷ []) (0 ∷ []) (1 ∷ []) (3 ∷ []) 1
+
+-- where M9 deletes key 21 and the next edit brings it back, the grant is gone, though the last table has the key
+pub farm-back : (carried 4 (pos 1) (carried 4 (negsuc 1) (pair 5 2 ∷ [])) ≡ [])
+    × (refound farm (inTurn (deletion 21) (insertion 20 blade) farm .table) (pair 5 2 ∷ []) ≡ pair 5 4 ∷ [])
+unfolding least someBelow nearest shortest countOk levelOk runOf sizeOf sizeOk kindOk hasName nameOk rowOf keyOk restOk
+    rowOk firstBad parent above ancestor given givenAt next tableCheck keyCheck badPiece insertCheck deleteCheck
+    editIf editCheck insertOutcome deleteOutcome opened closed changed gapOf inserted deleted minus insertDone
+    deleteDone carried carriedBy wasDeleted refound
+farm-back = (refl, refl)

@@ -5,7 +5,7 @@
 use mathlib.Core.Path.{_≡_, refl, sym, ap, ap₂, _∙_}
 use mathlib.Core.Logic.{_↔_}
 use mathlib.Core.Bool.{Bool, true, false, cond, not, true≢false}
-use mathlib.Core.List.{List, [], _∷_, map}
+use mathlib.Core.List.{List, [], _∷_}
 use Prim.Native.Nat.{ℕ, _<_}
 use native.Mathlib.Omega.{arith}
 use borrow.Author.Tests.{ltb-true, lt-ltb, not-false}
@@ -30,7 +30,7 @@ use Rattle.commute.specs.Act.{Act, outcome}
 use Rattle.commute.specs.Again.{goes}
 use Rattle.commute.proofs.FoundAgain.{edited-sound, row-again}
 use Rattle.commute.proofs.GoneLaws.{gone}
-use Rattle.carry.specs.Refound.{againAt, refound}
+use Rattle.carry.specs.Refound.{againAt, refound, stillThere, byKey}
 use Rattle.carry.proofs.MoveLaws.{moved-to-is, deleted-goes}
 
 -- ── carrying is finding again ──
@@ -86,14 +86,6 @@ module _ (a : Act) (t : Table) (d : Done) (e : outcome a t .answer ≡ Made d) w
           absurd (omega arith)
 
 -- ── a list by its keys ──
--- the role and the key of each pair
-abbrev pub byKey : Table → List Pair → List Pair
-byKey t ps = map (λ p. pair (p .role) (at (t .key) (p .row))) ps
-
--- the pairs whose key u has, as they stand in t
-unfoldable pub stillThere : Table → Table → List Pair → List Pair
-stillThere t u ps = carriedBy (λ w. not (ltb (againAt t u w) (u .count))) (λ w. w) ps
-
 -- place by place they name the same role and the same key
 refound-keys : (t u : Table) (ps : List Pair) → byKey u (refound t u ps) ≡ byKey t (stillThere t u ps)
 unfolding refound stillThere carriedBy

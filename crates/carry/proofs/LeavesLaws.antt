@@ -1,5 +1,6 @@
--- What carrying leaves, by the way it ends: refused by a check (`leaves-refused`), without room (`leaves-full`), or
--- with the new list written (`leaves-written`), which is ready to be written where there is room (`call-ready`).
+-- Where the checks pass, the first moved row can be moved (`call-moves`). What carrying leaves, by the way it ends:
+-- refused by a check (`leaves-refused`), without room (`leaves-full`), or with the new list, which is ready to be
+-- written where there is room (`call-ready`), written (`leaves-written`).
 -- `carry-only`: two ends that the contract of `carry` allows are the same. Assumes nothing.
 use mathlib.Core.Path.{_≡_, refl, sym, ap, _∙_}
 use mathlib.Core.Bool.{true, not}

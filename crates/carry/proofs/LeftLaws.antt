@@ -1,8 +1,8 @@
 -- A row between two rows went, `between`, any other did not, `before-it`, `behind-it`. Counting the pairs that stay: at
 -- the front none, `left-none`, one row more, `left-next`, all of them, `left-all`. Where the move does not lead towards
--- the front all stay, `left-whole`, and where all do, each does, `each-stays`. They are as many as the carried list has,
--- `left-carried`, `left-is`. Where the move leads to the row `to`, rows and pairs in row numbers are `row-to` and
--- `carried-to`. Assumes nothing.
+-- the front all stay, `left-whole`, and where all do, each does, `each-stays`. They are as many as the carried list
+-- has, `left-carried`. Where the move leads to the row `to`, a row and the list in row numbers are `row-to` and
+-- `carried-to`, and the list's length is `left-is`. Assumes nothing.
 use mathlib.Core.Path.{_≡_, refl, sym, ap, _∙_}
 use mathlib.Core.Bool.{Bool, true, false, cond, _&&_}
 use mathlib.Core.List.{List, [], _∷_, _++_}

@@ -1,8 +1,7 @@
 -- The signed move at 64 bits: a move of at most 4,096 rows, either way, added to a row number, as the code computes it,
--- `sum-fits`, `sum-is`. The code's first tests leave no other move, `small-move`, and refuse only what refusal 17 does,
--- `refused-otherwise`, `far-down`, `far-up`; the others are its tests, `same-tests`. A move that fits is small,
--- `fits-small`, and takes a row to a row, `row-moves`.
--- Assumes nothing.
+-- `sum-fits`, `sum-is`. The code's first tests leave no other move, `small-move`. A move that fits is small,
+-- `fits-small`, and takes a row to a row, `row-moves`. The first tests refuse only what refusal 17 does,
+-- `refused-otherwise`, `far-down`, `far-up`; the last are its own, `same-tests`. Assumes nothing.
 use mathlib.Core.Path.{_≡_, refl, sym, ap₂, _∙_}
 use mathlib.Core.Bool.{Bool, true, false, cond, _&&_, true≢false}
 use Prim.Native.Nat.{ℕ, suc, _+_, _-_, _<_, _≤_}
@@ -19,7 +18,7 @@ use Rattle.tree.specs.CarryRules.{MoveFits}
 use Rattle.tree.proofs.MoveLaws.{move-adds, move-ok}
 use Rattle.tree.proofs.CarryAccept.{count-moves}
 
--- the difference of two row numbers is no further from 0 than the greater one
+-- the difference of two row numbers is no further from 0 than their sum
 sub-small : (a b : ℕ) → mag (subℕ a b) ≤ a + b
 sub-small a b = go (ltb a b)
   where
@@ -59,7 +58,7 @@ small-move (negsuc a) d u = let z : a ≤ 4095 = ltb-false 4095 a d in omega ari
 
 module _ (old first : ℕ) (m : ℤ) (h : MoveFits old first m) (l : old ≤ 4096) where
   -- it adds no more rows than there is room for, and takes no more away than there are
-  pub fits-near : (ltZ m (negsuc 4095) ≡ false) × (ltZ (pos 4096) m ≡ false)
+  fits-near : (ltZ m (negsuc 4095) ≡ false) × (ltZ (pos 4096) m ≡ false)
   fits-near = go m (h .leaves)
     where
       go : (m : ℤ) → pos old +ℤ m ≡ pos (h .new) → (ltZ m (negsuc 4095) ≡ false) × (ltZ (pos 4096) m ≡ false)

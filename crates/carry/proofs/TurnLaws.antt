@@ -1,7 +1,7 @@
 -- Two edits in turn. Carrying a list over the one and then over the other is finding it again by its keys in the last
--- table, `carry-both`, unless the second edit brings a key back that the first deleted: that is another row, and the
--- grant on the old one is gone. So over two edits that may come in either order (demand 3) a list is carried to the
--- same list, `either-order`. Assumes nothing.
+-- table, `carry-both`, where the second edit brings no key back that the first deleted, `not-brought`: that would be
+-- another row, and the grant on the old one is gone (`farm-back`, FarmOrder.antt). So over two edits that may come in
+-- either order (demand 3) a list is carried to the same list, `either-order`. Assumes nothing.
 use mathlib.Core.Path.{_≡_, refl, sym, ap, ap₂, _∙_}
 use mathlib.Core.Bool.{Bool, true, false, not, _||_, true≢false}
 use mathlib.Core.List.{List}
@@ -23,21 +23,18 @@ use Rattle.tree.proofs.RowsInUse.{cut-find}
 use Rattle.tree.proofs.NodeLaws.{absent-edited, all-rows, rows-all}
 use Rattle.tree.proofs.Nodes.{Unlike, Absent, nodeAt, nodesOf, brought}
 use Rattle.tree.proofs.CarryLaws.{carried-same, carried-twice}
-use Rattle.commute.specs.Act.{Act, insertion, deletion, renaming, outcome, tableAfter, rowNamed}
+use Rattle.commute.specs.Act.{Act, insertion, deletion, renaming, outcome, tableAfter, rowNamed, brings}
+use Rattle.commute.specs.Act.{newKeys}
 use Rattle.commute.specs.Independent.{Independent, inTurn}
 use Rattle.commute.proofs.ActLaws.{Fits, editOf, accepted-fits, accepted-has, after-nodes}
 use Rattle.commute.proofs.FoundAgain.{edited-sound}
-use Rattle.commute.proofs.TurnLaws.{flipped}
+use Rattle.commute.proofs.TurnLaws.{key-not-brought, flipped}
 use Rattle.commute.proofs.Demand3.{demand-three}
-use Rattle.carry.specs.Refound.{againAt, refound}
+use Rattle.carry.specs.Refound.{againAt, refound, NotBack}
 use Rattle.carry.proofs.GrantLaws.{Inside, carry-refinds, refound-in}
 
 -- ── found again twice ──
--- no key of the table t that is gone from u is in v
-abbrev pub NotBack : Table → Table → Table → Type 0
-NotBack t u v = (w : ℕ) → w < t .count → NoKey u (at (t .key) w) → NoKey v (at (t .key) w)
-
--- then a list found again in u, and from there in v, is found again in v
+-- where no key comes back, a list found again in u, and from there in v, is found again in v
 refound-twice : (t u v : Table) → NotBack t u v → (ps : List Pair) → Inside t ps
     → refound u v (refound t u ps) ≡ refound t v ps
 unfolding refound
@@ -81,17 +78,6 @@ module _ (a b : Act) (t : Table) (d e : Done) (p : outcome a t .answer ≡ Made 
       ∙ carry-refinds b u e q (refound t u ps) (refound-inside t u s ps)
       ∙ refound-twice t u (inTurn a b t .table) n ps i
 
--- ── edits in either order ──
--- an edit accepted on the table t brings no key of t
-brings-none : (b : Act) (t : Table) → Fits b t → (w : ℕ) → w < t .count → Absent (at (t .key) w) (brought (editOf b))
-unfolding brought
-brings-none (insertion k p) t f w l =
-    let r : ℕ = rowNamed (insertion k p) t in
-    all-rows (Unlike (at (t .key) w)) (nodeAt p) (p .count)
-    (λ i m e. insert-passes t r p .0 (f .passes) .fresh i m w l (sym e))
-brings-none (deletion k) t f w l = tt
-brings-none (renaming k m) t f w l = tt
-
 -- a key that no row has and that the edit does not bring is in no row afterwards
 still-none : (b : Act) (u : Table) → Fits b u → (x : ℕ) → NoKey u x → Absent x (brought (editOf b))
     → NoKey (tableAfter b u) x
@@ -99,13 +85,30 @@ still-none b u f x n h j l =
     rows-all (Unlike x) (nodeAt (tableAfter b u)) (tableAfter b u .count) j l
     (rw (after-nodes b u f) (absent-edited (editOf b) x _ (nodesOf u) (all-rows (Unlike x) (nodeAt u) (u .count) n) h))
 
--- so of two independent edits the second brings nothing back
-not-back : (a b : Act) (t : Table) → Independent a b t → (d e : Done) → outcome a t .answer ≡ Made d
-    → inTurn a b t .answer ≡ Made e → NotBack t (outcome a t .table) (inTurn a b t .table)
-not-back a b t i d e p q w l n =
+-- no key comes back where the second edit brings none of those that the first deleted, as no deletion and no renaming
+-- does
+pub not-brought : (a b : Act) (t : Table) (e : Done) → inTurn a b t .answer ≡ Made e
+    → ((w : ℕ) → w < t .count → NoKey (outcome a t .table) (at (t .key) w)
+    → (i : ℕ) → i < brings b → at (newKeys b) i ≡ at (t .key) w → ⊥)
+    → NotBack t (outcome a t .table) (inTurn a b t .table)
+not-brought a b t e q h w l n =
     accepted-has (λ (e : Done) (v : Table). NoKey v (at (t .key) w)) b (outcome a t .table) e q
-    (λ f. still-none b (outcome a t .table) f (at (t .key) w) n
-    (brings-none b t (accepted-fits b t (i .accepted-b)) w l))
+    (λ f. still-none b (outcome a t .table) f (at (t .key) w) n (key-not-brought b (at (t .key) w) (h w l n)))
+
+-- ── edits in either order ──
+-- an edit accepted on the table t brings no key of t
+brings-none : (b : Act) (t : Table) → Fits b t → (w : ℕ) → w < t .count
+    → (i : ℕ) → i < brings b → at (newKeys b) i ≡ at (t .key) w → ⊥
+brings-none (insertion k p) t f w l i m e =
+    insert-passes t (rowNamed (insertion k p) t) p .0 (f .passes) .fresh i m w l (sym e)
+brings-none (deletion k) t f w l i m e = omega arith
+brings-none (renaming k n) t f w l i m e = omega arith
+
+-- so of two independent edits the second brings nothing back
+not-back : (a b : Act) (t : Table) → Independent a b t → (e : Done) → inTurn a b t .answer ≡ Made e
+    → NotBack t (outcome a t .table) (inTurn a b t .table)
+not-back a b t i e q =
+    not-brought a b t e q (λ w l n. brings-none b t (accepted-fits b t (i .accepted-b)) w l)
 
 -- rows in use that are the same find the same
 refound-same : (t u v : Table) → SameRows u v → (ps : List Pair) → refound t u ps ≡ refound t v ps
@@ -128,6 +131,6 @@ pub either-order : (a b : Act) (t : Table) → Independent a b t → (ps : List 
     → carried (e .first) (e .moved) (carried (d .first) (d .moved) ps)
     ≡ carried (e′ .first) (e′ .moved) (carried (d′ .first) (d′ .moved) ps)
 either-order a b t i ps j d e d′ e′ p q p′ q′ =
-    carry-both a b t d e p q (not-back a b t i d e p q) ps j
+    carry-both a b t d e p q (not-back a b t i e q) ps j
     ∙ refound-same t (inTurn a b t .table) (inTurn b a t .table) (demand-three a b t i .2) ps
-    ∙ sym (carry-both b a t d′ e′ p′ q′ (not-back b a t (flipped a b t i) d′ e′ p′ q′) ps j)
+    ∙ sym (carry-both b a t d′ e′ p′ q′ (not-back b a t (flipped a b t i) e′ q′) ps j)

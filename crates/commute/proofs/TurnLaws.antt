@@ -43,7 +43,7 @@ keys-brought (deletion k) b h = tt
 keys-brought (renaming k m) b h = tt
 
 -- a key unlike each of them is not brought
-key-not-brought : (a : Act) (x : ℕ) → ((i : ℕ) → i < brings a → at (newKeys a) i ≡ x → ⊥)
+pub key-not-brought : (a : Act) (x : ℕ) → ((i : ℕ) → i < brings a → at (newKeys a) i ≡ x → ⊥)
     → Absent x (brought (editOf a))
 unfolding brought
 key-not-brought (insertion k p) x h = all-rows (Unlike x) (nodeAt p) (p .count) h

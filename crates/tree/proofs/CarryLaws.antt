@@ -1,6 +1,7 @@
--- Laws of a carried list, whatever rows go and wherever the others stand (`carriedBy`): which pairs it has,
--- `carried-in`; it depends on the rows of the list alone, `carried-same`; carried twice is carried once,
--- `carried-twice`; it is no longer, `carried-most`; of two lists in a row, `carried-append`. Assumes nothing.
+-- Laws of a carried list, whatever rows go and wherever the others stand (`carriedBy`): its first pair goes,
+-- `carried-gone`, or stays, `carried-stays`; it is no longer than it was, `carried-most`; of two lists in a row,
+-- `carried-append`; which pairs it has, `carried-in`; it depends on the rows of the list alone, `carried-same`; carried
+-- twice is carried once, `carried-twice`. Assumes nothing.
 use mathlib.Core.Path.{_≡_, refl, sym, ap, ap₂, _∙_}
 use mathlib.Core.Logic.{inl, inr, _↔_}
 use mathlib.Core.Bool.{Bool, true, false, cond, _||_, true≢false}

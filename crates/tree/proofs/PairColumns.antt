@@ -1,5 +1,5 @@
--- The two columns of a list of pairs: they are its pairs again, `pairs-columns`, as long as it is, `length-roles`,
--- `length-rows`, and of two lists in a row, `roles-append`, `rows-append`. The list of two columns: its length,
+-- The two columns of a list of pairs: they are its pairs again, `pairs-columns`; of two lists in a row, `rows-append`,
+-- `roles-append`; they are as long as it is, `length-rows`, `length-roles`. The list of two columns: its length,
 -- `length-pairs`, and its places, `pairs-at`. Rows below a number, `pairs-below`, `rows-below`. Assumes nothing.
 use mathlib.Core.Path.{_≡_, refl, sym, ap}
 use mathlib.Core.Logic.{inl, inr}

@@ -1,5 +1,5 @@
--- Pairs that do not fall (`Sorted`): a list of columns that pass refusal 4 is sorted, `sorted-there`, and the columns
--- of a sorted list pass it, `sorted-back`. Assumes nothing.
+-- Pairs that do not fall (`Sorted`): the test of refusal 4 at a place, `order-at`; a list of columns that pass it is
+-- sorted, `sorted-there`, and the columns of a sorted list pass it, `sorted-back`. Assumes nothing.
 use mathlib.Core.Path.{_≡_, refl, sym, ap, _∙_}
 use mathlib.Core.Logic.{_⊎_, inl, inr, ⊎-elim}
 use mathlib.Core.Bool.{Bool, true, false, _&&_}
