@@ -23,19 +23,18 @@ abbrev pub Sorted : List Pair → Type 0
 Sorted [] = Unit {0}
 Sorted (p ∷ ps) = ((q : Pair) → In q ps → NotAfter p q) × Sorted ps
 
+-- by way of a pair between them
 not-after-trans : (p q s : Pair) → NotAfter p q → NotAfter q s → NotAfter p s
 not-after-trans p q s (inl a) (inl b) = inl (omega arith)
 not-after-trans p q s (inl a) (inr b) = inl (omega (arith, b .0))
 not-after-trans p q s (inr a) (inl b) = inl (omega (arith, a .0))
 not-after-trans p q s (inr a) (inr b) = inr (a .0 ∙ b .0, omega (arith, a .1, b .1))
 
--- the test of refusal 4 fails exactly where the first of two pairs does not come after the second
+-- where the test of refusal 4 fails, the first of two pairs does not come after the second
 not-before : (p q : Pair) → before (q .role) (q .row) (p .role) (p .row) ≡ false → NotAfter p q
 unfolding before
 not-before p q e =
-    let n = neither (ltb (q .role) (p .role)) _ e in
-    let l : p .role ≤ q .role = ltb-false _ _ (n .0) in
-    go (eqb (q .role) (p .role)) refl (n .1)
+    go (eqb (q .role) (p .role)) refl (neither (ltb (q .role) (p .role)) _ e .1)
   where
     go : (b : Bool) → eqb (q .role) (p .role) ≡ b → (b && ltb (q .row) (p .row)) ≡ false → NotAfter p q
     go true d h = inr (sym (eqb-true _ _ d), ltb-false _ _ h)
@@ -44,6 +43,7 @@ not-before p q e =
         let n : q .role ≡ p .role → ⊥ = eqb-false _ _ d in
         inl (omega arith)
 
+-- and it fails wherever the first does not come after the second
 before-not : (p q : Pair) → NotAfter p q → before (q .role) (q .row) (p .role) (p .row) ≡ false
 unfolding before
 before-not p q (inl l) =
