@@ -1,6 +1,7 @@
 -- Carrying is accepted exactly if everything fits: `carry-passes`; then it answers and leaves the new list,
--- `carry-accepted`. In row numbers that list is `carried-is`, and the new count `count-moves`. The list fits the new
--- table, `carried-fits`: it does not fall, and its rows are below the new count. Assumes nothing.
+-- `carry-accepted`. In row numbers that list is `carried-is`, and the new count `count-moves`. Where rows keep their
+-- order the list fits the table that they come to, `pairs-stay`: it does not fall, and its rows are below the count. So
+-- the new list fits the new table, `carried-fits`. Assumes nothing.
 use mathlib.Core.Path.{_≡_, refl, sym, ap, _∙_}
 use mathlib.Core.Logic.{_⊎_, inl, inr, ⊎-elim, _↔_}
 use mathlib.Core.Bool.{Bool, true, false, cond, not, _&&_, true≢false}
@@ -86,6 +87,49 @@ carry-accepted role row old first moved outRole outRow h =
     ap (λ (c : Checked). carryIf c (carried first moved (pairsOf role row)) outRole outRow)
     (carry-passes role row old first moved outRole outRow .1 h)
 
+-- ── a list whose rows keep their order ──
+module _ (goes : ℕ → Bool) (to : ℕ → ℕ)
+    (order : (v w : ℕ) → goes v ≡ false → goes w ≡ false → v ≤ w → to v ≤ to w) where
+  -- a sorted list stays sorted
+  sorted-carried : (ps : List Pair) → Sorted ps → Sorted (carriedBy goes to ps)
+  unfolding carriedBy
+  sorted-carried [] s = tt
+  sorted-carried (p ∷ ps) s = go (goes (p .row)) refl (sorted-carried ps (s .1))
+    where
+      go : (b : Bool) → goes (p .row) ≡ b → Sorted (carriedBy goes to ps)
+          → Sorted (cond b (carriedBy goes to ps) (pair (p .role) (to (p .row)) ∷ carriedBy goes to ps))
+      go true e ih = ih
+      go false e ih = (
+        λ q i. let z = carried-in goes to q ps .0 i in
+            ⊎-elim (λ l. inl l)
+            (λ l. inr (l .0, rw (z .3) (order (p .row) (z .0) e (z .2) (l .1))))
+            (s .0 (pair (q .role) (z .0)) (z .1)),
+        ih,
+      )
+
+  -- and fits the table that its rows come to
+  pub pairs-stay : (role row : List ℕ) (old new : ℕ) → ((w : ℕ) → w < old → goes w ≡ false → to w < new)
+      → PairsFit role row old
+      → PairsFit (rolesOf (carriedBy goes to (pairsOf role row))) (rowsOf (carriedBy goes to (pairsOf role row))) new
+  pairs-stay role row old new inside f = record {
+    even = length-roles _ ∙ sym (length-rows _);
+    few = omega (
+      arith,
+      length-roles (carriedBy goes to ps),
+      carried-most goes to ps,
+      length-pairs role row (f .even),
+      f .few,
+    );
+    order = sorted-back (carriedBy goes to ps) (sorted-carried ps (sorted-there role row
+        (λ i l. sym (order-at role row i) ∙ f .order (suc i) l)));
+    inside = λ i l. rows-below new (carriedBy goes to ps) (λ q j. let z = carried-in goes to q ps .0 j in
+        rw (z .3) (inside (z .0) (pairs-below old role row (f .inside) _ (z .1)) (z .2))) i
+        (omega (arith, length-roles (carriedBy goes to ps), length-rows (carriedBy goes to ps)));
+  }
+    where
+      ps : List Pair
+      ps = pairsOf role row
+
 -- ── the new list ──
 module _ (old first : ℕ) (moved : ℤ) (h : MoveFits old first moved) where
   -- the new list in row numbers
@@ -131,48 +175,10 @@ module _ (old first : ℕ) (moved : ℤ) (h : MoveFits old first moved) where
       ⊎-elim (λ p. omega (arith, p .0, p .1, p .2, count-moves, h .within))
       (λ p. omega (arith, p .0, p .1, count-moves)) (stays-where w a)
 
-  -- a sorted list stays sorted
-  sorted-carried : (ps : List Pair) → Sorted ps → Sorted (carriedBy (goneRow (h .to) first) (newRow (h .to) first) ps)
-  unfolding carriedBy
-  sorted-carried [] s = tt
-  sorted-carried (p ∷ ps) s = go (goneRow (h .to) first (p .row)) refl (sorted-carried ps (s .1))
-    where
-      go : (b : Bool) → goneRow (h .to) first (p .row) ≡ b
-          → Sorted (carriedBy (goneRow (h .to) first) (newRow (h .to) first) ps)
-          → Sorted (cond b (carriedBy (goneRow (h .to) first) (newRow (h .to) first) ps)
-          (pair (p .role) (newRow (h .to) first (p .row))
-          ∷ carriedBy (goneRow (h .to) first) (newRow (h .to) first) ps))
-      go true e ih = ih
-      go false e ih = (
-        λ q i. let z = carried-in _ _ q ps .0 i in
-            ⊎-elim (λ l. inl l)
-            (λ l. inr (l .0, rw (z .3) (stays-order (p .row) (z .0) e (z .2) (l .1))))
-            (s .0 (pair (q .role) (z .0)) (z .1)),
-        ih,
-      )
-
   -- the new list fits the new table: the next step takes it as it is
   pub carried-fits : (role row : List ℕ) → PairsFit role row old
       → PairsFit (rolesOf (carried first moved (pairsOf role row))) (rowsOf (carried first moved (pairsOf role row)))
       (h .new)
-  carried-fits role row f = rw (carried-is (pairsOf role row)) (record {
-    even = length-roles _ ∙ sym (length-rows _);
-    few = omega (
-      arith,
-      length-roles new,
-      carried-most (goneRow (h .to) first) (newRow (h .to) first) ps,
-      length-pairs role row (f .even),
-      f .few,
-    );
-    order = sorted-back new (sorted-carried ps (sorted-there role row
-        (λ i l. sym (order-at role row i) ∙ f .order (suc i) l)));
-    inside = λ i l. rows-below (h .new) new (λ q j. let z = carried-in _ _ q ps .0 j in
-        rw (z .3) (stays-inside (z .0) (pairs-below old role row (f .inside) _ (z .1)) (z .2))) i
-        (omega (arith, length-roles new, length-rows new));
-  })
-    where
-      ps : List Pair
-      ps = pairsOf role row
-
-      new : List Pair
-      new = carriedBy (goneRow (h .to) first) (newRow (h .to) first) ps
+  carried-fits role row f =
+      rw (carried-is (pairsOf role row))
+      (pairs-stay (goneRow (h .to) first) (newRow (h .to) first) stays-order role row old (h .new) stays-inside f)

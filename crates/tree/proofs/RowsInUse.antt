@@ -13,7 +13,7 @@ use native.Mathlib.Numerals.{unary-clauses}
 use native.Mathlib.Omega.{arith}
 use borrow.Author.Tests.{leb-true, le-leb}
 use lib.Dec.{eqb, leb}
-use lib.ListN.{length, take, drop, length-take}
+use lib.ListN.{take, drop, length-take}
 use lib.Seq.{take-take, getD-take}
 use Rattle.tree.specs.Search.{nearest}
 use Rattle.tree.specs.Table.{Table, at, shortest, countOk, SameRows}
@@ -33,6 +33,7 @@ use Rattle.tree.proofs.TreeLaws.{parent-below}
 use Rattle.tree.proofs.AxisLaws.{same-test}
 use Rattle.tree.proofs.StepLaws.{In}
 use Rattle.tree.proofs.RoleLaws.{pair-passes}
+use Rattle.tree.proofs.PairColumns.{pairs-below}
 
 -- the table with no spare rows
 abbrev pub cut : Table → Table
@@ -175,15 +176,6 @@ some-ext f g r (p ∷ ps) h =
 abbrev Inside : ℕ → List Pair → Type 0
 Inside n ps = (p : Pair) → In p ps → p .row < n
 
--- as refusal 5 asks
-pairs-inside : (n : ℕ) (role row : List ℕ) → ((i : ℕ) → i < length role → at row i < n) → Inside n (pairsOf role row)
-unfolding pairsOf
-pairs-inside n [] ws h p i = absurd i
-pairs-inside n (r ∷ rs) [] h p i = absurd i
-pairs-inside n (r ∷ rs) (w ∷ ws) h p (inl e) =
-    let z : p .row ≡ w = ap (λ (x : Pair). x .row) e in omega (arith, h 0 (omega arith))
-pairs-inside n (r ∷ rs) (w ∷ ws) h p (inr i) = pairs-inside n rs ws (λ j l. h (suc j) (omega arith)) p i
-
 module _ (t : Table) (a : Ask) (ps : List Pair) (h : Inside (t .count) ps) where
   -- whether a role reaches a row
   cut-listed : (r w : ℕ) → w < t .count → listed (cut t) a ps r w ≡ listed t a ps r w
@@ -230,7 +222,7 @@ cut-step t role row a outRole outRow = go (pairCheck role row (t .count)) refl
     go Passed e =
         let ps : List Pair = pairsOf role row in
         let h : Inside (t .count) (pairsOf role row) =
-        pairs-inside (t .count) role row (pair-passes role row (t .count) .0 e .inside) in
+        pairs-below (t .count) role row (pair-passes role row (t .count) .0 e .inside) in
         rw (cut-check t, cut-lines t a ps h (distinct ps), cut-remaining t a ps h ps h)
     go (Refused m p) e = rw (cut-check t, e) (refused-same (tableCheck t) _ _ m p _ _ _ _ outRole outRow)
 
