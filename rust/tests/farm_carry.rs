@@ -68,7 +68,7 @@ fn numbers_that_no_edit_answers_are_refused() {
     let refusal = |count: usize, first_moved_row: usize, moved: i64| {
         carried(PAIRS, Edited { count, first_moved_row, moved }).unwrap_err()
     };
-    for (first_moved_row, moved) in [(0, -2), (11, -2), (2, -2), (usize::MAX, -2), (10, -10)] {
+    for (first_moved_row, moved) in [(0, -2), (11, -2), (1, -2), (usize::MAX, -2), (10, -10)] {
         let count = 10_usize.checked_add_signed(moved).unwrap();
         assert_eq!(refusal(count, first_moved_row, moved as i64), Refusal::BadMove);
     }

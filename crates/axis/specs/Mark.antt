@@ -1,8 +1,8 @@
 -- What the functions that mark the rows of one context ask for and leave, for the axes whose rows do not come out in
 -- order. Assumes nothing.
-use Prim.Native.Nat.{ℕ, zero, suc, _+_, _*_, _/_, _<_, _≤_}
+use Prim.Native.Nat.{ℕ, zero, suc, _+_, _-_, _*_, _/_, _<_, _≤_}
 use mathlib.Core.Path.{_≡_}
-use mathlib.Core.Bool.{Bool, true, false, _&&_, _||_}
+use mathlib.Core.Bool.{Bool, true, false, cond, _&&_, _||_}
 use mathlib.Core.List.{List}
 use lib.Dec.{ltb, leb, eqb}
 use lib.ListN.{length}
@@ -11,6 +11,15 @@ use Rattle.tree.specs.Tree.{parent, ancestor}
 use Rattle.tree.specs.Rules.{Shape}
 use Rattle.span.specs.Reach.{Contexts, Parents}
 use Rattle.axis.specs.RowSet.{has, inWord, RowSet, Marked}
+
+-- a column of 4,096 zeros
+pub record Zeros (up : List ℕ) : Type 0 where
+  pub long : length up ≡ 4096
+  pub zero : (w : ℕ) → w < 4096 → at up w ≡ 0
+
+-- one more than the row that a path by level has above level l, 0 at level 0
+unfoldable pub aboveOf : List ℕ → ℕ → ℕ
+aboveOf path l = cond (eqb l 0) 0 (at path (l - 1) + 1)
 
 -- row w is a child of p, at or after row a and before row e
 unfoldable pub childIn : List ℕ → ℕ → ℕ → ℕ → ℕ → Bool

@@ -5,7 +5,7 @@ use mathlib.Core.List.{List}
 use Prim.Native.Nat.{ℕ}
 use lib.Dec.{eqb}
 use Rattle.tree.specs.Axis.{axisOk}
-use Rattle.span.specs.Reach.{oneRole, RoleIn, Wrote, Parents}
+use Rattle.span.specs.Reach.{oneRole, RoleIn, Wrote, Parents, Roots}
 use Rattle.span.specs.Want.{fits}
 use Rattle.axis.specs.RowSet.{Blank}
 
@@ -21,12 +21,21 @@ markedAxis axis = eqb axis 2 || (eqb axis 5 || (eqb axis 6 || (eqb axis 7 || (eq
 unfoldable pub climbsAxis : ℕ → Bool
 climbsAxis axis = eqb axis 5 || (eqb axis 6 || (eqb axis 7 || (eqb axis 10 || eqb axis 11)))
 
--- an axis, a tree, its parents where the axis follows them, contexts, an empty set and room for the rows
+-- the axes that stop at the ends of a tree
+unfoldable pub sideAxis : ℕ → Bool
+sideAxis axis = eqb axis 8 || eqb axis 9
+
+-- up holds for each row what the axis follows: its parent, or where the axis stops at the ends of a tree its root
+pub record UpFor (axis : ℕ) (level : List ℕ) (n : ℕ) (up : List ℕ) : Type 0 where
+  pub parents : climbsAxis axis ≡ true → Parents level n up
+  pub roots : sideAxis axis ≡ true → Roots level n up
+
+-- an axis, trees, what the axis follows in them, contexts, an empty set and room for the rows
 pub record RoleAsk (axis : ℕ) (size level kind name up : List ℕ) (n wantKind wantName : ℕ) (cs words out : List ℕ)
     : Type 0 where
   pub known : axisOk axis ≡ true
   pub asks : RoleIn axis size level kind name n wantKind wantName cs out
-  pub parents : climbsAxis axis ≡ true → Parents level n up
+  pub links : UpFor axis level n up
   pub blank : Blank words
 
 -- the rows in front of out, and the set empty again

@@ -2,10 +2,11 @@
 ghost use mathlib.Core.Path.{_≡_};
 ghost use mathlib.Core.Bool.{true};
 ghost use Rattle.tree.specs.Rules.{Shape};
-ghost use Rattle.span.specs.Reach.{oneRole, RoleIn, Wrote, Parents};
+ghost use Rattle.span.specs.Reach.{oneRole, RoleIn, Wrote, Parents, Roots};
 ghost use Rattle.span.specs.Want.{fits};
 ghost use Rattle.axis.specs.RowSet.{Marks, Marked};
-ghost use Rattle.axis.specs.Role.{rangedAxis, markedAxis, climbsAxis, RoleAsk, RoleDone};
+ghost use Rattle.axis.specs.Mark.{Zeros};
+ghost use Rattle.axis.specs.Role.{rangedAxis, markedAxis, climbsAxis, sideAxis, UpFor, RoleAsk, RoleDone};
 use super::mark;
 use super::path;
 use super::row_set;
@@ -29,6 +30,7 @@ fn ranged(
     size: &[usize],
     kind: &[usize],
     name: &[usize],
+    up: &[usize; 4096],
     count: usize,
     rows: &[usize],
     want_kind: usize,
@@ -38,6 +40,7 @@ fn ranged(
     requires { ⌜ rangedAxis axis ≡ true ⌝ }
     requires { ⌜ RoleIn axis (now size) (now level) (now kind) (now name) count
         «want_kind» «want_name» (now rows) (now out) ⌝ }
+    requires { ⌜ (sideAxis axis ≡ true → Roots (now level) count (now up)) ⌝ }
     ensures { λ r. ⌜ Wrote
         (oneRole axis (now (level .entry)) count
         (fits «want_kind» «want_name» (now (kind .entry)) (now (name .entry))) (now (rows .entry)))
@@ -84,6 +87,7 @@ fn ranged(
             size,
             kind,
             name,
+            up,
             count,
             rows,
             want_kind,
@@ -95,6 +99,7 @@ fn ranged(
             size,
             kind,
             name,
+            up,
             count,
             rows,
             want_kind,
@@ -139,19 +144,26 @@ fn climbs(axis: usize) -> bool
     )
 }
 
-// Leaves the parents of all rows in up where the axis follows them.
-pub fn parents_for(
-    axis: usize,
-    size: &[usize],
-    level: &[usize],
-    count: usize,
-    up: &mut [usize; 4096],
-)
+// Whether the axis stops at the ends of a tree.
+fn sides(axis: usize) -> bool
+    ensures { λ r. ⌜ r ≡ sideAxis axis ⌝ }
+{
+    either(axis == 8, axis == 9)
+}
+
+// Leaves in `up`, which comes with zeros, what the axis follows: the parents of all rows, or their roots where it stops
+// at the ends of a tree.
+pub fn up_for(axis: usize, size: &[usize], level: &[usize], count: usize, up: &mut [usize; 4096])
     requires { ⌜ Shape (now size) (now level) count ⌝ }
-    ensures { λ _. ⌜ (climbsAxis axis ≡ true → Parents (now (level .entry)) count (now (up .exit))) ⌝ }
+    requires { ⌜ Zeros (now up) ⌝ }
+    ensures { λ _. ⌜ UpFor axis (now (level .entry)) count (now (up .exit)) ⌝ }
 {
     if climbs(axis) {
         mark::parents(size, level, count, up);
+        return;
+    }
+    if sides(axis) {
+        mark::roots(size, level, count, up);
     }
 }
 
@@ -183,6 +195,7 @@ pub fn one_role(
             size,
             kind,
             name,
+            up,
             count,
             rows,
             want_kind,

@@ -1,11 +1,12 @@
 -- An accepted edit's first moved row and move, read as carrying reads them: they say the same of a row, `moved-to-is`;
--- they fit, so refusal 17 is not given, `edit-moves`; and the rows that they drop are those that the edit deletes,
--- `deleted-goes`. Assumes nothing.
-use mathlib.Core.Path.{_≡_, refl, ap, _∙_}
+-- they fit, so refusal 17 is not given, `edit-moves`, and in a table of one tree the first moved row never comes to
+-- row 0, `one-lands`; and the rows that they drop are those that the edit deletes, `deleted-goes`. Assumes nothing.
+use mathlib.Core.Path.{_≡_, refl, sym, ap, _∙_}
 use mathlib.Core.Bool.{Bool, true, false}
 use Prim.Native.Nat.{ℕ, _+_, _-_, _<_, _≤_}
 use native.Mathlib.Decide.{decLt}
 use native.Mathlib.Omega.{arith}
+use borrow.Author.Tests.{eqb-false}
 use lib.IntN.{pos, _+ℤ_}
 use Rattle.tree.specs.Table.{Table, at}
 use Rattle.tree.specs.Edit.{gapOf, inserted, deleted, renamed, minus, insertDone, deleteDone, renameDone}
@@ -13,11 +14,13 @@ use Rattle.tree.specs.Carry.{rowAfter, wasDeleted}
 use Rattle.tree.specs.CarryRules.{MoveFits, goneRow}
 use Rattle.tree.specs.declared.Done.{Done}
 use Rattle.tree.specs.declared.Edited.the-variants.{Made}
-use Rattle.tree.proofs.AcceptLaws.{insert-passes, delete-passes}
+use Rattle.tree.proofs.SoundLaws.{given-passed}
+use Rattle.tree.proofs.AcceptLaws.{insert-passes}
+use Rattle.tree.proofs.OneTreeLaws.{Lone, one-delete}
 use Rattle.tree.proofs.EditLaws.{gap-fits}
 use Rattle.commute.specs.Act.{Act, insertion, deletion, renaming, outcome, rowNamed, tableAfter, doneOf}
 use Rattle.commute.specs.Again.{movedTo, goes}
-use Rattle.commute.proofs.ActLaws.{Fits, accepted-has}
+use Rattle.commute.proofs.ActLaws.{Fits, accepted-has, after-sound}
 use Rattle.commute.proofs.FoundAgain.{plus-minus, after-gap}
 use Rattle.commute.proofs.GoneLaws.{in-gap}
 use Rattle.carry.proofs.LeftLaws.{between, before-it, behind-it}
@@ -54,7 +57,6 @@ after-moves (insertion k p) t f =
         some = omega arith;
         within = gap-fits t (f .sound) r (f .found);
         lands = refl;
-        behind = omega arith;
         leaves = refl;
         rows = omega (arith, f .found);
         few = h .few;
@@ -65,7 +67,6 @@ after-moves (deletion k) t f =
     let r : ℕ = rowNamed (deletion k) t in
     let by : ℕ = at (t .size) r + 1 in
     let m : r + by ≤ t .count = gap-fits t (f .sound) r (f .found) in
-    let n : rowNamed (deletion k) t ≡ 0 → ⊥ = delete-passes t r .0 (f .passes) in
     record {
       fits = record {
         to = r;
@@ -73,9 +74,8 @@ after-moves (deletion k) t f =
         some = omega arith;
         within = m;
         lands = lands-at t r;
-        behind = omega arith;
         leaves = plus-minus (t .count) by (omega arith);
-        rows = omega arith;
+        rows = after-sound (deletion k) t f .in-use .some;
         few = omega (arith, f .sound .in-use .few);
       };
       count = refl;
@@ -89,7 +89,6 @@ after-moves (renaming k m) t f =
         some = f .sound .in-use .some;
         within = omega arith;
         lands = ap pos z;
-        behind = f .sound .in-use .some;
         leaves = ap pos z;
         rows = f .sound .in-use .some;
         few = f .sound .in-use .few;
@@ -100,6 +99,30 @@ after-moves (renaming k m) t f =
 -- an accepted edit's answer fits
 pub edit-moves : (a : Act) (t : Table) (d : Done) → outcome a t .answer ≡ Made d → Moved t d (outcome a t .table)
 edit-moves a t d e = accepted-has (Moved t) a t d e (after-moves a t)
+
+-- by the definitions, in a table of one tree
+after-lands : (a : Act) (t : Table) → Fits a t → Lone (t .level) (t .count) → (to : ℕ)
+    → pos (doneOf a t .first) +ℤ doneOf a t .moved ≡ pos to → 1 ≤ to
+unfolding insertDone deleteDone renameDone gapOf
+after-lands (insertion k p) t f o to e =
+    let z : gapOf t (rowNamed (insertion k p) t) + p .count ≡ to = cc in
+    omega arith
+after-lands (deletion k) t f o to e =
+    let d : pos (rowNamed (deletion k) t) ≡ pos to = sym (lands-at t (rowNamed (deletion k) t)) ∙ e in
+    let z : rowNamed (deletion k) t ≡ to = cc in
+    let p = sym (one-delete t (f .sound) o (rowNamed (deletion k) t) (f .found)) ∙ f .passes in
+    let n : rowNamed (deletion k) t ≡ 0 → ⊥ = eqb-false _ _ (given-passed _ _ _ p) in
+    omega arith
+after-lands (renaming k m) t f o to e =
+    let z : t .count + 0 ≡ to = cc in
+    omega (arith, f .sound .in-use .some)
+
+-- in a table of one tree no accepted edit brings the first moved row to row 0: what E2 changed of 17 is not met there
+pub one-lands : (a : Act) (t : Table) (d : Done) → outcome a t .answer ≡ Made d → Lone (t .level) (t .count)
+    → (to : ℕ) → pos (d .first) +ℤ d .moved ≡ pos to → 1 ≤ to
+one-lands a t d e o =
+    accepted-has (λ (d : Done) (u : Table). (to : ℕ) → pos (d .first) +ℤ d .moved ≡ pos to → 1 ≤ to) a t d e
+    (λ f. after-lands a t f o)
 
 -- ── the rows that are dropped ──
 -- by the definitions, the rows dropped are those that go

@@ -112,7 +112,7 @@ regroup false b c d e p = refl
 
 -- the last tests of the code are those of refusal 17
 pub same-tests : (old first : ℕ) (m : ℤ) → first ≤ old
-    → (leb 1 first && leZ (pos 1) (pos first +ℤ m) && (leZ (pos 1) (pos old +ℤ m) && leZ (pos old +ℤ m) (pos 4096)))
+    → (leb 1 first && leZ (pos 0) (pos first +ℤ m) && (leZ (pos 1) (pos old +ℤ m) && leZ (pos old +ℤ m) (pos 4096)))
     ≡ moveOk old first m
 unfolding moveOk
 same-tests old first m l = regroup (leb 1 first) (leb first old) _ _ _ (le-leb first old l)

@@ -26,7 +26,7 @@ fn move_ok(old_count: usize, first: usize, moved: i64) -> bool
     let to = first as i64 + moved;
     let new_count = old_count as i64 + moved;
     both(
-        both(1 <= first, 1 <= to),
+        both(1 <= first, 0 <= to),
         both(1 <= new_count, new_count <= 4096),
     )
 }

@@ -11,10 +11,12 @@ use lib.ListN.{length}
 use Rattle.tree.specs.Table.{Table, at, shortest, SameRows}
 use Rattle.tree.specs.Sound.{rowOf}
 use Rattle.tree.specs.Rules.{Sound}
-use Rattle.tree.specs.EditRules.{InsertFits, RenameFits}
+use Rattle.tree.specs.EditRules.{OtherRoot, InsertFits, RenameFits}
 use Rattle.tree.specs.Tree.{ancestor}
 use Rattle.tree.specs.declared.Checked.the-variants.{Passed}
-use Rattle.tree.proofs.SoundLaws.{find-at, sound-descendants}
+use Rattle.tree.proofs.SoundLaws.{find-at, sound-steps, sound-descendants}
+use Rattle.tree.proofs.TreeLaws.{ancestor-under}
+use Rattle.tree.proofs.AxisLaws.{false-of}
 use Rattle.tree.proofs.AcceptLaws.{neither-of, insert-passes, delete-passes, rename-passes}
 use Rattle.tree.proofs.Nodes.{Node, nodeAt, nodesOf, sizes, edited, brought, Row, Unlike, Absent, Apart}
 use Rattle.tree.proofs.NodeLaws.{length-rows, all-rows, rows-all}
@@ -27,7 +29,7 @@ use Rattle.tree.proofs.EditLaws.{rowIn, row-key, row-found, key-column, level-c
 use Rattle.tree.proofs.EditSound.{insert-apart}
 use Rattle.commute.specs.Act.{Act, insertion, deletion, renaming, keyOf, rowNamed, brings}
 use Rattle.commute.specs.Act.{newKeys, tableAfter}
-use Rattle.commute.specs.Independent.{Independent}
+use Rattle.commute.specs.Independent.{Independent, DeletesRoot}
 use Rattle.commute.specs.Again.{goes}
 use Rattle.commute.proofs.ActLaws.{own, Fits, editOf, accepted-fits, after-sound}
 use Rattle.commute.proofs.ActLaws.{after-nodes, after-count, after-shortest}
@@ -71,20 +73,56 @@ row-stays (insertion k p) b t i = refl
 row-stays (deletion k) b t i = neither-of (ne-eqb _ _ (λ e. i .rows-differ (sym e))) (i .a-not-above)
 row-stays (renaming k m) b t i = refl
 
--- b's own check passes on a sound table u where its row has the same level and kind, its keys are new and there is room
+-- another root than the one that b deletes stays where a is done first
+root-stays : (a b : Act) (t : Table) → Independent a b t → Sound (tableAfter a t)
+    → rowNamed b (tableAfter a t) < tableAfter a t .count → DeletesRoot b t
+    → OtherRoot (tableAfter a t .level) (tableAfter a t .count) (rowNamed b (tableAfter a t))
+root-stays a (insertion k p) t i s l z = absurd z
+root-stays a (renaming k m) t i s l z = absurd z
+root-stays a (deletion k) t i s l z =
+    let f : Fits a t = accepted-fits a t (i .accepted-a) in
+    let g : Fits (deletion k) t = accepted-fits (deletion k) t (i .accepted-b) in
+    let o = delete-passes t (rowNamed (deletion k) t) .0 (g .passes) .remains z in
+    let u : Table = tableAfter a t in
+    let (w, r) = after-row a t f (o .row) (o .inside) (stays a i f o) in
+    record {
+      row = w;
+      inside = r .in-use;
+      top = r .level ∙ o .top;
+      unlike = λ e.
+          let x : at (t .key) (o .row) ≡ k = sym (r .key) ∙ ap (at (u .key)) e ∙ row-key u k l in
+          o .unlike (sym (find-at t (g .sound) (o .row) (o .inside)) ∙ ap (rowOf (t .key) (t .count)) x);
+    }
+  where
+    stays : (a : Act) → Independent a (deletion k) t → Fits a t
+        → (o : OtherRoot (t .level) (t .count) (rowNamed (deletion k) t)) → goes a t (o .row) ≡ false
+    stays (insertion j p) i f o = refl
+    stays (renaming j m) i f o = refl
+    stays (deletion j) i f o =
+        neither-of (ne-eqb _ _ (λ e. i .one-root (ap (at (t .level)) (sym e) ∙ o .top) z))
+        (false-of _ (λ e.
+        let d = ancestor-under (t .level) (t .count) (sound-steps t (f .sound)) (rowNamed (deletion j) t) (o .row)
+        (o .inside) .0 e in
+        let y = o .top in
+        omega (arith, d .deeper (o .row) (d .after) (omega arith))))
+
+-- b's own check passes on a sound table u where its row has the same level and kind, another root is left, its keys are
+-- new and there is room
 own-again : (b : Act) (t u : Table) → Fits b t → Sound u → rowNamed b u < u .count
     → at (u .level) (rowNamed b u) ≡ at (t .level) (rowNamed b t)
     → at (u .kind) (rowNamed b u) ≡ at (t .kind) (rowNamed b t)
+    → (DeletesRoot b t → OtherRoot (u .level) (u .count) (rowNamed b u))
     → Apart (brought (editOf b)) (nodesOf u) → u .count + brings b ≤ 4096 → u .count + brings b ≤ shortest u
     → own b u ≡ Passed
 unfolding brought
-own-again (insertion k p) t u f s l v c n limit room =
+own-again (insertion k p) t u f s l v c o n limit room =
     let r : ℕ = rowNamed (insertion k p) t in
     let q : ℕ = rowNamed (insertion k p) u in
     let h : InsertFits t r p = insert-passes t r p .0 (f .passes) in
     insert-passes u q p .1 (record {
       piece = h .piece;
       root = h .root;
+      one = h .one;
       parent = omega (arith, h .parent);
       low = λ i m. omega (arith, h .low i m);
       fresh = λ i m j o. rows-all (Unlike (at (p .key) i)) (nodeAt u) (u .count) j o
@@ -92,14 +130,9 @@ own-again (insertion k p) t u f s l v c n limit room =
       few = limit;
       room = room;
     })
-own-again (deletion k) t u f s l v c n limit room =
-    let r : ℕ = rowNamed (deletion k) t in
-    let z : rowNamed (deletion k) t ≡ 0 → ⊥ = delete-passes t r .0 (f .passes) in
-    let d : 1 ≤ at (t .level) r = f .sound .rows r (f .found) .levels .inner (omega arith) in
-    delete-passes u (rowNamed (deletion k) u) .1
-    (λ e. let w : at (u .level) (rowNamed (deletion k) u) ≡ 0 = s .rows (rowNamed (deletion k) u) l .levels .root e in
-    omega arith)
-own-again (renaming k m) t u f s l v c n limit room =
+own-again (deletion k) t u f s l v c o n limit room =
+    delete-passes u (rowNamed (deletion k) u) .1 (record { remains = λ e. o (sym v ∙ e) })
+own-again (renaming k m) t u f s l v c o n limit room =
     let r : ℕ = rowNamed (renaming k m) t in
     rename-passes u (rowNamed (renaming k m) u) m .1
     (subst (λ (x : ℕ). RenameFits x m) (sym c) (rename-passes t r m .0 (f .passes)))
@@ -119,6 +152,7 @@ fits-after a b t i =
       sound = s;
       found = l;
       passes = own-again b t u g s l (ap (at (u .level)) e ∙ r .level) (ap (at (u .kind)) e ∙ r .kind)
+          (root-stays a b t i s l)
           (subst (Apart (brought (editOf b))) (sym (after-nodes a t f))
           (apart-edited (editOf a) (keyOf a) (brought (editOf b)) (nodesOf t) (keys-new b t g) (pieces-apart a b t i)))
           (omega (arith, after-count a t, i .in-limit))
@@ -176,6 +210,7 @@ flipped a b t i = record {
   rows-differ = λ e. i .rows-differ (sym e);
   a-not-above = i .b-not-above;
   b-not-above = i .a-not-above;
+  one-root = λ x y. i .one-root y x;
   keys-differ = λ n j l m e. i .keys-differ j n m l (sym e);
   in-limit = omega (arith, i .in-limit);
   in-columns = omega (arith, i .in-columns);

@@ -1,9 +1,10 @@
 -- A deletion at a row: the rows that go are in use, `rows-fit`, and their ancestors have them, `rows-lowerable`; what
--- the passes over the columns leave is the outcome, `delete-made`, or row 0 stays, `delete-refused`. Assumes nothing.
+-- the passes over the columns leave is the outcome, `delete-made`, or the only root stays, `delete-refused`.
+-- Assumes nothing.
 use mathlib.Core.Path.{_≡_, ap, _∙_}
 use Prim.Native.Nat.{ℕ, _+_, _-_, _≤_}
 use native.Mathlib.Omega.{arith}
-use borrow.Author.Tests.{eq-eqb}
+use borrow.Author.Tests.{eq-eqb, ne-eqb}
 use mathlib.Core.List.{List}
 use lib.ListN.{length}
 use Rattle.tree.specs.Table.{Table, at}
@@ -12,8 +13,9 @@ use Rattle.tree.specs.Edit.{closed, gapOf, deleted, deleteDone, minus}
 use Rattle.tree.specs.Refusal.{deleteCheck}
 use Rattle.tree.specs.declared.Done.{Done}
 use Rattle.tree.specs.declared.Edited.the-variants.{Made, Refused as NotMade}
-use Rattle.tree.proofs.SoundLaws.{sound-shape}
-use Rattle.tree.proofs.AcceptLaws.{delete-passes}
+use Rattle.tree.specs.declared.Checked.the-variants.{Passed}
+use Rattle.tree.proofs.SoundLaws.{sound-shape, given-not}
+use Rattle.tree.proofs.LastRootLaws.{only-root-is}
 use Rattle.tree.proofs.EditLaws.{gap-fits}
 use Rattle.tree.proofs.ColumnLaws.{length-changed}
 use Rattle.edit.specs.Leaves.{Leaves}
@@ -26,12 +28,19 @@ use Rattle.edit.proofs.OutcomeLaws.{leaves, own-refused, own-passed, gi
 use Rattle.shift.proofs.SizePassLaws.{lowered-is, lowerable}
 
 module _ (t : Table) (r : ℕ) where
-  -- row 0 stays
-  pub delete-refused : r ≡ 0 → Leaves (deleteAt t r) (NotMade 15 0) (t .key) (t .size) (t .level) (t .kind) (t .name)
-  unfolding deleteCheck
-  delete-refused e = leaves t (own-refused _ _ t (given-is 15 0 (eq-eqb r 0 e)))
-
   module _ (k : Known t r) where
+    -- the only root stays
+    pub delete-refused : at (t .size) r + 1 ≡ t .count
+        → Leaves (deleteAt t r) (NotMade 15 0) (t .key) (t .size) (t .level) (t .kind) (t .name)
+    unfolding deleteCheck
+    delete-refused e =
+        leaves t (own-refused _ _ t (given-is 15 0 (only-root-is t (k .sound) r (k .in-use) ∙ eq-eqb _ _ e)))
+
+    -- another row goes
+    delete-on : (at (t .size) r + 1 ≡ t .count → ⊥) → deleteCheck t r ≡ Passed
+    unfolding deleteCheck
+    delete-on ne = given-not 15 0 (only-root-is t (k .sound) r (k .in-use) ∙ ne-eqb _ _ ne)
+
     -- the row and its descendants are in use
     pub rows-fit : r + (at (t .size) r + 1) ≤ t .count
     unfolding gapOf
@@ -48,7 +57,7 @@ module _ (t : Table) (r : ℕ) where
     column-closed xs l e f = pulled-cleared r (t .count) (at (t .size) r + 1) xs _ _ rows-fit l e f
 
     -- the sizes lowered, then every column closed up, and cleared
-    pub delete-made : (r ≡ 0 → ⊥) → {d : Done} {low k₁ s₁ l₁ d₁ m₁ k₂ s₂ l₂ d₂ m₂ : List ℕ}
+    pub delete-made : (at (t .size) r + 1 ≡ t .count → ⊥) → {d : Done} {low k₁ s₁ l₁ d₁ m₁ k₂ s₂ l₂ d₂ m₂ : List ℕ}
         → low ≡ lowered (t .size) r (at (t .size) r + 1)
         → k₁ ≡ pulled r (t .count) (at (t .size) r + 1) (t .key)
         → s₁ ≡ pulled r (t .count) (at (t .size) r + 1) low
@@ -65,7 +74,7 @@ module _ (t : Table) (r : ℕ) where
     unfolding deleted deleteDone gapOf
     delete-made ne {low = low} fall k₁ s₁ l₁ d₁ m₁ k₂ s₂ l₂ d₂ m₂ done =
         let by : ℕ = at (t .size) r + 1 in
-        let o = leaves (deleted t r) (own-passed (deleteDone t r) (deleted t r) t (delete-passes t r .1 ne)) in
+        let o = leaves (deleted t r) (own-passed (deleteDone t r) (deleted t r) t (delete-on ne)) in
         let u : InUse t = k .sound .in-use in
         let long : length low ≡ length (t .size) = ap length fall ∙ length-changed _ _ (t .size) in
         record {

@@ -8,8 +8,8 @@ use shift::mover::close_column;
 use shift::sizes;
 use tree::Edited;
 
-// The row and its descendants go, or refusal 15. Later rows close up in all columns, the freed rows are zero, and the
-// sizes of the row's ancestors fall.
+// The row and its descendants go, or refusal 15 where they are the whole table: then the row is the only root. Later
+// rows close up in all columns, the freed rows are zero, and the sizes of the row's ancestors fall.
 pub fn delete_at(
     key: &mut [usize],
     size: &mut [usize],
@@ -25,10 +25,10 @@ pub fn delete_at(
         (now (name .entry)) count) row) r
         (now (key .exit)) (now (size .exit)) (now (level .exit)) (now (kind .exit)) (now (name .exit)) ⌝ }
 {
-    if row == 0 {
+    let by = size[row] + 1;
+    if by == count {
         return Edited::Refused(15, 0);
     }
-    let by = size[row] + 1;
     let gap = row + by;
     let left = count - by;
     sizes::lower(size, row, by);

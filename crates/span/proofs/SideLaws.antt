@@ -3,26 +3,17 @@
 -- Assumes nothing.
 use mathlib.Core.Path.{_≡_, refl, sym, ap, _∙_}
 use mathlib.Core.Logic.{_⊎_, inl, inr, ⊎-elim}
-use mathlib.Core.Bool.{true, false}
-use mathlib.Core.List.{List, [], _∷_}
+use mathlib.Core.List.{List}
 use Prim.Native.Nat.{ℕ, zero, suc, _+_, _-_, _<_, _≤_, min}
 use native.Mathlib.Nat.{le-refl, le-of-suc-le-suc, not-suc-le-zero, eq-or-lt-of-le}
 use native.Mathlib.Numerals.{add-one}
 use native.Mathlib.Omega.{arith}
-use borrow.Author.Tests.{lt-ltb, le-ltb}
-use lib.Dec.{ltb}
-use lib.ListN.{length}
 use Rattle.tree.specs.Table.{at}
-use Rattle.tree.specs.Axis.{onAxis}
 use Rattle.tree.specs.Rules.{Shape}
 use Rattle.tree.proofs.TreeLaws.{Under, less?, ancestor-under}
 use Rattle.tree.proofs.SoundLaws.{shape-steps, shape-descendants, shape-fits}
-use Rattle.tree.proofs.AxisLaws.{following-is, preceding-is}
-use Rattle.span.specs.Want.{fits}
-use Rattle.span.specs.Reach.{anyOn, oneRole, Contexts, RoleIn, Wrote}
-use Rattle.span.specs.Range.{rowsIn, Appended, RangeIn, EndsIn, firstAfter, Nests, Ended}
-use Rattle.span.proofs.RangeLaws.{contexts-rise, any-hit, any-miss, Covered, cover-start, cover-skip}
-use Rattle.span.proofs.RangeLaws.{cover-range, cover-asks, cover-done}
+use Rattle.span.specs.Reach.{RoleIn}
+use Rattle.span.specs.Range.{EndsIn, firstAfter, Nests, Ended}
 
 -- ── the least row after one of the contexts ──
 module _ (size : List ℕ) (n : ℕ) (cs : List ℕ) where
@@ -36,7 +27,7 @@ module _ (size : List ℕ) (n : ℕ) (cs : List ℕ) where
   after-more k p q =
       q ∙ ap (λ (x : ℕ). min x (at cs k + at size (at cs k) + 1)) p ∙ sym (ap (firstAfter size n cs) (add-one k))
 
-  after-least : (k i : ℕ) → i < k → firstAfter size n cs k ≤ at cs i + at size (at cs i) + 1
+  pub after-least : (k i : ℕ) → i < k → firstAfter size n cs k ≤ at cs i + at size (at cs i) + 1
   unfolding firstAfter
   after-least zero i l = absurd (not-suc-le-zero l)
   after-least (suc k) i l = ⊎-elim
@@ -45,7 +36,7 @@ module _ (size : List ℕ) (n : ℕ) (cs : List ℕ) where
       (eq-or-lt-of-le (le-of-suc-le-suc l))
 
   -- it is n, or the row after one of them
-  after-met : (k : ℕ) → (firstAfter size n cs k ≡ n)
+  pub after-met : (k : ℕ) → (firstAfter size n cs k ≡ n)
       ⊎ ((i : ℕ) × (i < k) × (firstAfter size n cs k ≡ at cs i + at size (at cs i) + 1))
   unfolding firstAfter
   after-met zero = inl refl
@@ -70,46 +61,6 @@ ends-in pre = record {
   in-size = pre .shape .in-size;
   inside = λ i l. shape-fits (pre .shape) _ (pre .contexts .inside i l);
 }
-
--- ── after: exactly the rows from there on ──
-module _ {size level : List ℕ} {n : ℕ} (s : Shape size level n) {cs : List ℕ} (h : Contexts cs n)
-    (w : ℕ) (m : w < n) where
-  following : (i : ℕ) → i < length cs → onAxis 8 level (at cs i) w ≡ ltb (at cs i + at size (at cs i)) w
-  unfolding onAxis
-  following i l = following-is s (at cs i) w (h .inside i l) m
-
-  pub after-not : w < firstAfter size n cs (length cs) → anyOn 8 level cs w ≡ false
-  after-not l = any-miss 8 level cs w
-      (λ i k. following i k ∙ le-ltb _ w (omega (arith, after-least size n cs (length cs) i k)))
-
-  pub after-all : firstAfter size n cs (length cs) ≤ w → anyOn 8 level cs w ≡ true
-  after-all l = ⊎-elim
-      (λ e. absurd (omega arith))
-      (λ e. any-hit 8 level cs w (e .0) (e .1) (following (e .0) (e .1) ∙ lt-ltb _ w (omega (arith, e .2))))
-      (after-met size n cs (length cs))
-
--- ── before: exactly the rows that end before the last context ──
--- a last context above something is there
-some-last : (cs : List ℕ) (k : ℕ) → k < at cs (length cs - 1) → length cs - 1 < length cs
-some-last [] k l = absurd (not-suc-le-zero l)
-some-last (c ∷ cs) k l = omega arith
-
-module _ {size level : List ℕ} {n : ℕ} (s : Shape size level n) {cs : List ℕ} (h : Contexts cs n)
-    (w : ℕ) (m : w < n) where
-  preceding : (i : ℕ) → i < length cs → onAxis 9 level (at cs i) w ≡ ltb (w + at size w) (at cs i)
-  unfolding onAxis
-  preceding i l = preceding-is s (at cs i) w (h .inside i l) m
-
-  -- a row that has not ended before the last context
-  pub before-not : at cs (length cs - 1) ≤ w + at size w → anyOn 9 level cs w ≡ false
-  before-not l = any-miss 9 level cs w (λ i k. preceding i k ∙ le-ltb (w + at size w) _
-      (omega (arith, contexts-rise h i (length cs - 1) (omega arith) (omega arith))))
-
-  -- a row that has
-  pub before-all : w + at size w < at cs (length cs - 1) → anyOn 9 level cs w ≡ true
-  before-all l =
-      let k : length cs - 1 < length cs = some-last cs (w + at size w) l in
-      any-hit 9 level cs w (length cs - 1) k (preceding (length cs - 1) k ∙ lt-ltb _ _ l)
 
 -- ── nesting ──
 pub nests : {size level : List ℕ} {n : ℕ} → Shape size level n → Nests size n
@@ -172,55 +123,3 @@ hop-next {size} {n} {c} {w} {v} t m s l = record {
 -- at a subtree that has not
 pub hop-stop : {size : List ℕ} {c w v : ℕ} → Hopped size c w v → c ≤ v + at size v → Ended size c w v
 hop-stop s l = record { from = s .from; to = s .to; ended = s .ended; holds = l }
-
--- ── what the rows after the contexts ask and give ──
-module _ {size level kind name : List ℕ} {n wk wn : ℕ} {cs d : List ℕ}
-    (pre : RoleIn 8 size level kind name n wk wn cs d) {a : ℕ} (e : a ≡ firstAfter size n cs (length cs)) where
-  within : a ≤ n
-  within = omega (arith, after-le size n cs (length cs))
-
-  none-before : Covered 8 level n (fits wk wn kind name) cs d d 0 a
-  none-before = cover-skip (cover-start pre) a (omega arith) within
-      (λ w l m. after-not (pre .shape) (pre .contexts) w (omega (arith, within)) (omega arith))
-
-  all-after : (w : ℕ) → a ≤ w → w < n → anyOn 8 level cs w ≡ true
-  all-after w l m = after-all (pre .shape) (pre .contexts) w m (omega arith)
-
-  pub after-asks : RangeIn kind name a n wk wn d 0
-  after-asks = cover-asks pre none-before n within (le-refl n) all-after
-
-  pub after-gives : {r : ℕ} {new : List ℕ} → Appended (rowsIn (fits wk wn kind name) a n) d 0 r new
-      → Wrote (oneRole 8 level n (fits wk wn kind name) cs) d r new
-  after-gives g = cover-range none-before n within (le-refl n) all-after g .wrote
-
--- ── the turns of the rows before the last context ──
-module _ {size level kind name : List ℕ} {n wk wn : ℕ} {cs d : List ℕ}
-    (pre : RoleIn 9 size level kind name n wk wn cs d) {c : ℕ} (e : c ≡ at cs (length cs - 1)) where
-  pub before-low : (w : ℕ) → w < c → c < n
-  before-low w l = omega (arith, pre .contexts .inside (length cs - 1) (some-last cs w (omega arith)))
-
-  module _ {out : List ℕ} {next w : ℕ} (s : Covered 9 level n (fits wk wn kind name) cs d out next w) where
-    pub before-done : c ≤ w → Wrote (oneRole 9 level n (fits wk wn kind name) cs) d next out
-    before-done l = cover-done s (λ v a b. before-not (pre .shape) (pre .contexts) v b (omega arith))
-
-    module _ (less : w < c) {r : ℕ} (h : Ended size c w r) where
-      inside : r < n
-      inside = omega (arith, before-low w less, h .to)
-
-      ended : (v : ℕ) → w ≤ v → v < r → anyOn 9 level cs v ≡ true
-      ended v a b = before-all (pre .shape) (pre .contexts) v (omega (arith, inside)) (omega (arith, h .ended v a b))
-
-      -- the row at which the range stops is not reached
-      open-row : (v : ℕ) → r ≤ v → v < r + 1 → anyOn 9 level cs v ≡ false
-      open-row v a b =
-          let q : at size r ≡ at size v = ap (at size) (let z : r ≡ v = omega arith in z) in
-          before-not (pre .shape) (pre .contexts) v (omega (arith, inside)) (omega (arith, h .holds))
-
-      pub before-asks : RangeIn kind name w r wk wn out next
-      before-asks = cover-asks pre s r (h .from) (omega (arith, inside)) ended
-
-      pub before-next : {m : ℕ} {new : List ℕ} → Appended (rowsIn (fits wk wn kind name) w r) out next m new
-          → Covered 9 level n (fits wk wn kind name) cs d new m (r + 1)
-      before-next g =
-          cover-skip (cover-range s r (h .from) (omega (arith, inside)) ended g) (r + 1) (omega arith)
-          (omega (arith, inside)) open-row

@@ -60,3 +60,15 @@ pub record Ended (size : List ℕ) (c w r : ℕ) : Type 0 where
   pub to : r ≤ c
   pub ended : (v : ℕ) → w ≤ v → v < r → v + at size v < c
   pub holds : c ≤ r + at size r
+
+-- a place among contexts that do not fall
+pub record PlaceIn (cs : List ℕ) (i : ℕ) : Type 0 where
+  pub inside : i < length cs
+  pub rising : (j k : ℕ) → j < k → k < length cs → at cs j ≤ at cs k
+
+-- of the contexts from place i on, r is the first that is not before row end, or their number
+pub record PastTree (cs : List ℕ) (i end r : ℕ) : Type 0 where
+  pub from : i ≤ r
+  pub to : r ≤ length cs
+  pub before : (k : ℕ) → i ≤ k → k < r → at cs k < end
+  pub after : r < length cs → end ≤ at cs r

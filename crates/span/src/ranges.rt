@@ -4,8 +4,8 @@ ghost use Prim.Native.Nat.{_-_, _<_, _≤_};
 ghost use lib.ListN.{length};
 ghost use Rattle.tree.specs.Table.{at};
 ghost use Rattle.span.specs.Want.{fits};
-ghost use Rattle.span.specs.Reach.{oneRole, RoleIn, Wrote};
-ghost use Rattle.span.specs.Range.{EndsIn, firstAfter, Nests, Ended};
+ghost use Rattle.span.specs.Reach.{oneRole, RoleIn, Roots, Wrote};
+ghost use Rattle.span.specs.Range.{EndsIn, firstAfter, PlaceIn, PastTree, Nests, Ended};
 use super::scan::emit;
 use super::scan::emit_one;
 use tree::logic::greater;
@@ -94,13 +94,34 @@ fn first_after(size: &[usize], count: usize, rows: &[usize]) -> usize
     first
 }
 
-// Axis 8: writes the rows that come after a context of one role and its descendants and fit to the front of `out`;
-// answers how many.
+// The first of the contexts from place i on that is not before row end, or their number. Most often no later tree has
+// a context of the role, so the last one is asked first.
+fn past_tree(rows: &[usize], i: usize, end: usize) -> usize
+    requires { ⌜ PlaceIn (now rows) i ⌝ }
+    ensures { λ r. ⌜ PastTree (now (rows .entry)) i end r ⌝ }
+{
+    let last = rows.len() - 1;
+    if rows[last] < end {
+        return rows.len();
+    }
+    let mut j = i;
+    while j < last {
+        if end <= rows[j] {
+            return j;
+        }
+        j += 1;
+    }
+    last
+}
+
+// Axis 8: writes the rows that come after a context of one role and its descendants, in the context's tree, and fit to
+// the front of `out`; answers how many. Tree by tree they are one range.
 pub fn rows_after(
     level: &[usize],
     size: &[usize],
     kind: &[usize],
     name: &[usize],
+    top: &[usize],
     count: usize,
     rows: &[usize],
     want_kind: usize,
@@ -109,23 +130,24 @@ pub fn rows_after(
 ) -> usize
     requires { ⌜ RoleIn 8 (now size) (now level) (now kind) (now name) count
         «want_kind» «want_name» (now rows) (now out) ⌝ }
+    requires { ⌜ Roots (now level) count (now top) ⌝ }
     ensures { λ r. ⌜ Wrote
         (oneRole 8 (now (level .entry)) count
         (fits «want_kind» «want_name» (now (kind .entry)) (now (name .entry))) (now (rows .entry)))
         (now (out .entry)) r (now (out .exit)) ⌝ }
 {
-    let from = first_after(size, count, rows);
-    emit(kind, name, from, count, want_kind, want_name, out, 0)
-}
-
-// The last context of one role, 0 where there is none.
-fn last_row(rows: &[usize]) -> usize
-    ensures { λ r. ⌜ r ≡ at (now (rows .entry)) (length (now (rows .entry)) - 1) ⌝ }
-{
-    if rows.len() == 0 {
-        return 0;
+    let mut next = 0;
+    let mut i = 0;
+    while i < rows.len() {
+        let c = rows[i];
+        let r = top[c];
+        let end = r + size[r] + 1;
+        let j = past_tree(rows, i, end);
+        let from = first_after(size, end, &rows[i..j]);
+        next = emit(kind, name, from, end, want_kind, want_name, out, next);
+        i = j;
     }
-    rows[rows.len() - 1]
+    next
 }
 
 // The next row from `w` on whose subtree does not end before row c: an ancestor of c, or c itself. It hops from
@@ -145,13 +167,14 @@ fn next_open(size: &[usize], count: usize, w: usize, c: usize) -> usize
     v
 }
 
-// Axis 9: writes the rows that come before a context of one role, are not its ancestors and fit to the front of `out`;
-// answers how many. Between two ancestors of the last context they are one range.
+// Axis 9: writes the rows that come before a context of one role in its tree, are not its ancestors and fit to the
+// front of `out`; answers how many. In a tree, between two ancestors of the last context there they are one range.
 pub fn rows_before(
     level: &[usize],
     size: &[usize],
     kind: &[usize],
     name: &[usize],
+    top: &[usize],
     count: usize,
     rows: &[usize],
     want_kind: usize,
@@ -160,18 +183,26 @@ pub fn rows_before(
 ) -> usize
     requires { ⌜ RoleIn 9 (now size) (now level) (now kind) (now name) count
         «want_kind» «want_name» (now rows) (now out) ⌝ }
+    requires { ⌜ Roots (now level) count (now top) ⌝ }
     ensures { λ r. ⌜ Wrote
         (oneRole 9 (now (level .entry)) count
         (fits «want_kind» «want_name» (now (kind .entry)) (now (name .entry))) (now (rows .entry)))
         (now (out .entry)) r (now (out .exit)) ⌝ }
 {
-    let c = last_row(rows);
     let mut next = 0;
-    let mut w = 0;
-    while w < c {
-        let open = next_open(size, count, w, c);
-        next = emit(kind, name, w, open, want_kind, want_name, out, next);
-        w = open + 1;
+    let mut i = 0;
+    while i < rows.len() {
+        let first = rows[i];
+        let r = top[first];
+        let j = past_tree(rows, i, r + size[r] + 1);
+        let c = rows[j - 1];
+        let mut w = r;
+        while w < c {
+            let open = next_open(size, count, w, c);
+            next = emit(kind, name, w, open, want_kind, want_name, out, next);
+            w = open + 1;
+        }
+        i = j;
     }
     next
 }

@@ -92,7 +92,7 @@ module _ (t : Table) (a : Ask) (up role row : List ℕ) (s : Steps t a up role r
       in-name = s .sound .in-use .in-name;
       room = room;
     };
-    parents = s .parents;
+    links = s .links;
     blank = b;
   }
 

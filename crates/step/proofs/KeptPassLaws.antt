@@ -1,6 +1,5 @@
 -- The rows that a role keeps where the next context decides: `pass-..` are the turns of the pass that counts them, on
--- any axis; `inner-..` where ancestors of contexts are dropped, `own-..` where none is. Then `one-kept`, where one
--- pair per role remains. Assumes nothing.
+-- any axis; `inner-..` where ancestors of contexts are dropped, `own-..` where none is. Assumes nothing.
 use mathlib.Core.Path.{_≡_, refl, sym, ap, _∙_}
 use mathlib.Core.Logic.{_⊎_, inl, inr, ⊎-elim}
 use mathlib.Core.Bool.{true, false}
@@ -8,7 +7,6 @@ use mathlib.Core.List.{List}
 use Prim.Native.Nat.{ℕ, _+_, _-_, _<_, _≤_}
 use native.Mathlib.Nat.{le-antisymm, eq-or-lt-of-le}
 use native.Mathlib.Omega.{arith}
-use borrow.Author.Tests.{lt-ltb, le-ltb}
 use lib.ListN.{length}
 use Rattle.tree.specs.Table.{at}
 use Rattle.tree.specs.Kept.{drops}
@@ -153,19 +151,3 @@ module _ {size level : List ℕ} {n : ℕ} {cs : List ℕ} (pre : KeptIn size le
     pub own-skip : at cs i ≤ at cs (i - 1) → Passed 1 level cs kept (i + 1)
     own-skip a =
         pass-skip 1 pre s l (inl (le-antisymm (contexts-rise (pre .contexts) (i - 1) i (omega arith) l) a))
-
--- ── one pair per role remains, that on its least row ──
-module _ {size level : List ℕ} {n : ℕ} {cs : List ℕ} (pre : KeptIn size level n cs) (l : 0 < length cs) where
-  first : (j : ℕ) → j < length cs → at cs 0 ≤ at cs j
-  first j m = contexts-rise (pre .contexts) 0 j (omega arith) m
-
-  pub one-kept : 1 ≡ keptOf 8 level cs
-  unfolding drops
-  one-kept = sym (
-      kept-rows 8 level cs n (pre .contexts .inside)
-      ∙ below-skip 8 level cs (at cs 0 + 1) n (omega (arith, pre .contexts .inside 0 l))
-      (λ w a b. row-dropped 8 level cs w 0 l (lt-ltb (at cs 0) w (omega arith)))
-      ∙ below-next 8 level cs (at cs 0) (row-kept 8 level cs 0 l (λ j m. le-ltb (at cs j) (at cs 0) (first j m)))
-      ∙ ap (λ (k : ℕ). k + 1)
-      (below-none 8 level cs (at cs 0) (λ w a. row-none 8 level cs w (λ j m e. omega (arith, first j m))))
-      )

@@ -1,6 +1,5 @@
 -- What the step of all roles asks for and leaves, once the call is known to be right. Assumes nothing.
 use mathlib.Core.Path.{_≡_}
-use mathlib.Core.Bool.{true}
 use mathlib.Core.List.{List}
 use Prim.Native.Nat.{ℕ, _≤_}
 use lib.ListN.{length}
@@ -10,15 +9,15 @@ use Rattle.tree.specs.Pairs.{pairsOf, rolesOf, rowsOf}
 use Rattle.tree.specs.Step.{Ask, stepList}
 use Rattle.tree.specs.Refusal.{pairCheck, askCheck}
 use Rattle.tree.specs.declared.Checked.the-variants.{Passed}
-use Rattle.span.specs.Reach.{Wrote, Parents}
-use Rattle.axis.specs.Role.{climbsAxis}
+use Rattle.span.specs.Reach.{Wrote}
+use Rattle.axis.specs.Role.{UpFor}
 
--- refusals 1 to 7 do not apply, and up holds the parents where the axis follows them
+-- refusals 1 to 7 do not apply, and up holds what the axis follows
 pub record Steps (t : Table) (a : Ask) (up role row : List ℕ) : Type 0 where
   pub sound : Sound t
   pub pairs : pairCheck role row (t .count) ≡ Passed
   pub asked : askCheck a ≡ Passed
-  pub parents : climbsAxis (a .axis) ≡ true → Parents (t .level) (t .count) up
+  pub links : UpFor (a .axis) (t .level) (t .count) up
 
 -- the result columns have room
 pub record Fits (t : Table) (a : Ask) (role row outRole outRow : List ℕ) : Type 0 where

@@ -1,9 +1,11 @@
 // The kept count of the contexts of one role, on every axis. The contexts do not fall: equal ones stand side by side.
 ghost use mathlib.Core.Path.{_≡_};
-ghost use mathlib.Core.Bool.{cond};
+ghost use mathlib.Core.Bool.{cond, true};
 ghost use Prim.Native.Nat.{_<_};
 ghost use lib.Dec.{leb};
 ghost use lib.ListN.{length};
+ghost use Rattle.span.specs.Reach.{Roots};
+ghost use Rattle.axis.specs.Role.{sideAxis};
 ghost use Rattle.step.specs.KeptOf.{keptOf, KeptIn};
 use tree::logic::greater;
 
@@ -66,15 +68,42 @@ fn kept_distinct(size: &[usize], level: &[usize], count: usize, rows: &[usize]) 
     kept
 }
 
+// Axes 8 and 9: in how many trees there are contexts, of one or more: that of the first one, and each whose root is not
+// that of the context before. Most often there is one, so first and last are asked before the others.
+fn kept_trees(size: &[usize], level: &[usize], top: &[usize], count: usize, rows: &[usize]) -> usize
+    requires { ⌜ KeptIn (now size) (now level) count (now rows) × (0 < length (now rows)) ⌝ }
+    requires { ⌜ Roots (now level) count (now top) ⌝ }
+    ensures { λ r. ⌜ r ≡ keptOf 8 (now (level .entry)) (now (rows .entry)) ⌝ }
+{
+    let first = rows[0];
+    let last = rows[rows.len() - 1];
+    if top[first] == top[last] {
+        return 1;
+    }
+    let mut kept = 1;
+    let mut i = 1;
+    while i < rows.len() {
+        let before = rows[i - 1];
+        let c = rows[i];
+        if top[before] < top[c] {
+            kept += 1;
+        }
+        i += 1;
+    }
+    kept
+}
+
 // How many distinct contexts of one role remain on an axis when redundant ones are dropped.
 pub(crate) fn kept_of(
     axis: usize,
     size: &[usize],
     level: &[usize],
+    up: &[usize; 4096],
     count: usize,
     rows: &[usize],
 ) -> usize
     requires { ⌜ KeptIn (now size) (now level) count (now rows) ⌝ }
+    requires { ⌜ (sideAxis axis ≡ true → Roots (now level) count (now up)) ⌝ }
     ensures { λ r. ⌜ r ≡ keptOf axis (now (level .entry)) (now (rows .entry)) ⌝ }
 {
     if rows.len() == 0 {
@@ -83,7 +112,7 @@ pub(crate) fn kept_of(
     match axis {
         3 | 4 => kept_outermost(size, level, count, rows),
         6 | 7 => kept_innermost(size, level, count, rows),
-        8 | 9 => 1,
+        8 | 9 => kept_trees(size, level, up, count, rows),
         _ => kept_distinct(size, level, count, rows),
     }
 }

@@ -11,7 +11,7 @@ mod most; // most.rt: an upper bound of the number of lines
 mod roles; // roles.rt: all roles
 mod room; // room.rt: whether the lines fit
 
-use axis::role::parents_for;
+use axis::role::up_for;
 use tree::Checked;
 use tree::Stepped;
 use tree::logic::smaller;
@@ -42,7 +42,7 @@ pub fn step_known(
         r (now («out_role» .exit)) (now («out_row» .exit)) ⌝ }
 {
     let mut up = [0usize; 4096];
-    parents_for(axis, size, level, count, &mut up);
+    up_for(axis, size, level, count, &mut up);
     let fitting = room::check_room(
         key,
         size,

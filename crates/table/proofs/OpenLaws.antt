@@ -54,7 +54,8 @@ record Unfinished (size level ends : List ℕ) (i top j : ℕ) : Type 0 where
 -- every row below i keeps the rules of level, kind and name
 record Kept (t : Table) (j : ℕ) : Type 0 where
   levels : levelOk (t .level) j ≡ true
-  others : (kindOk (at (t .kind) j) (at (t .size) j) j && nameOk (at (t .kind) j) (at (t .name) j)) ≡ true
+  others : (kindOk (at (t .kind) j) (at (t .size) j) (at (t .level) j)
+      && nameOk (at (t .kind) j) (at (t .name) j)) ≡ true
 
 pub record Followed (t : Table) (ends : List ℕ) (top i : ℕ) : Type 0 where
   pub some : 1 ≤ i
@@ -70,12 +71,12 @@ unfolding rootFits
 root-small own kind size name e =
     leb-true _ _ (both (eqb own 0) _ (both (eqb own 0 && leb size 4096) _ e .0) .1)
 
-pub row-small : (own top kind size name i : ℕ) → rowFits own top kind size name i ≡ true → (own ≤ 63) × (size ≤ 4096)
+pub row-small : (own top kind size name : ℕ) → rowFits own top kind size name ≡ true → (own ≤ 63) × (size ≤ 4096)
 unfolding rowFits
-row-small own top kind size name i e =
-    let a = both (leb 1 own && leb own 63 && leb own (top + 1) && leb size 4096) _ e in
-    let b = both (leb 1 own && leb own 63 && leb own (top + 1)) _ (a .0) in
-    (leb-true _ _ (both (leb 1 own) _ (both (leb 1 own && leb own 63) _ (b .0) .0) .1), leb-true _ _ (b .1))
+row-small own top kind size name e =
+    let a = both (leb own 63 && leb own (top + 1) && leb size 4096) _ e in
+    let b = both (leb own 63 && leb own (top + 1)) _ (a .0) in
+    (leb-true _ _ (both (leb own 63) _ (b .0) .0), leb-true _ _ (b .1))
 
 module _ (t : Table) (u : InUse t) where
   pub followed-root : (ends : List ℕ) → length ends ≡ 64
@@ -95,7 +96,6 @@ module _ (t : Table) (u : InUse t) where
           levels =
               level-back (t .level) 0 (record {
                 root = λ _. root;
-                inner = λ q. absurd (omega arith);
                 step = λ q. absurd (omega arith);
                 low = omega arith;
               });
@@ -109,17 +109,15 @@ module _ (t : Table) (u : InUse t) where
       }
 
   pub followed-more : (ends : List ℕ) (top i : ℕ) → i < t .count → Followed t ends top i
-      → rowFits (at (t .level) i) top (at (t .kind) i) (at (t .size) i) (at (t .name) i) i ≡ true
+      → rowFits (at (t .level) i) top (at (t .kind) i) (at (t .size) i) (at (t .name) i) ≡ true
       → EndAt ends (at (t .level) i) top i
       → Followed t (set ends (at (t .level) i) (i + at (t .size) i + 1)) (at (t .level) i) (i + 1)
   unfolding rowFits
   followed-more ends top i l f e d =
-      let a = both (leb 1 own && leb own 63 && leb own (top + 1) && leb (at (t .size) i) 4096) _ e in
-      let b = both (leb 1 own && leb own 63 && leb own (top + 1)) _ (a .0) in
-      let g = both (leb 1 own && leb own 63) _ (b .0) in
-      let h = both (leb 1 own) _ (g .0) in
-      let low : 1 ≤ own = leb-true _ _ (h .0) in
-      let high : own ≤ 63 = leb-true _ _ (h .1) in
+      let a = both (leb own 63 && leb own (top + 1) && leb (at (t .size) i) 4096) _ e in
+      let b = both (leb own 63 && leb own (top + 1)) _ (a .0) in
+      let g = both (leb own 63) _ (b .0) in
+      let high : own ≤ 63 = leb-true _ _ (g .0) in
       let near : own ≤ top + 1 = leb-true _ _ (g .1) in
       record {
         some = omega arith;
@@ -130,7 +128,6 @@ module _ (t : Table) (u : InUse t) where
             (λ z. rw z (record {
               levels = level-back (t .level) i (record {
                 root = λ z. absurd (omega (arith, f .some));
-                inner = λ _. low;
                 step = λ _. omega (arith, f .last);
                 low = high;
               });
@@ -178,5 +175,5 @@ module _ (t : Table) (u : InUse t) where
       keeps : (j : ℕ) → j < i → restOk t j ≡ true
       keeps j l =
           let k = f .kept j l in
-          let o = both (kindOk (at (t .kind) j) (at (t .size) j) j) _ (k .others) in
+          let o = both (kindOk (at (t .kind) j) (at (t .size) j) (at (t .level) j)) _ (k .others) in
           both-of (both-of (both-of (k .levels) (eq-eqb _ _ (size-is j l))) (o .0)) (o .1)

@@ -1,27 +1,31 @@
 -- When an edit is accepted, in plain words: `insert-passes`, `delete-passes`, `rename-passes`, `edit-passes`.
 -- Tests that fail, `neither`, `neither-of`; a search that finds nothing, `none-below`; a key that is not found,
 -- `no-key`; a piece that may be inserted, `piece-ok`; the last check of a chain, `next-next`. Assumes nothing.
-use mathlib.Core.Path.{_≡_, refl, ap, _∙_}
-use mathlib.Core.Logic.{inl, inr, ⊎-elim, _↔_}
-use mathlib.Core.Bool.{Bool, true, false, not, _||_, true≢false}
+use mathlib.Core.Path.{_≡_, refl, sym, ap, _∙_}
+use mathlib.Core.Logic.{_⊎_, inl, inr, ⊎-elim, _↔_}
+use mathlib.Core.Bool.{Bool, true, false, not, _&&_, _||_, true≢false}
+use mathlib.Core.List.{List}
 use Prim.Native.Nat.{ℕ, _+_, _<_, _≤_}
 use native.Mathlib.Omega.{arith}
 use borrow.Author.Tests.{eqb-true, eqb-false, eq-eqb, ne-eqb, ltb-true, ltb-false, lt-ltb, le-ltb, leb-true, le-leb}
-use borrow.Author.Tests.{not-false}
+use borrow.Author.Tests.{not-true, not-false}
 use lib.Dec.{eqb, ltb}
 use Rattle.tree.specs.Search.{least, someBelow}
 use Rattle.tree.specs.Table.{Table, at, countOk}
 use Rattle.tree.specs.Sound.{rowOf, hasName, firstBad}
 use Rattle.tree.specs.Rules.{Sound}
-use Rattle.tree.specs.EditRules.{NoKey, InsertFits, RenameFits, EditFits}
+use Rattle.tree.specs.Tree.{otherRoot}
+use Rattle.tree.specs.EditRules.{NoKey, OtherRoot, InsertFits, DeleteFits, RenameFits, EditFits}
 use Rattle.tree.specs.Refusal.{givenAt, next, tableCheck, keyCheck, badPiece, insertCheck, deleteCheck}
 use Rattle.tree.specs.Refusal.{renameCheck}
 use Rattle.tree.specs.Outcome.{editCheck}
 use Rattle.tree.specs.declared.Checked.{Checked}
 use Rattle.tree.specs.declared.Checked.the-variants.{Passed, Refused}
-use Rattle.tree.proofs.SearchLaws.{least-below, least-none}
+use Rattle.tree.proofs.SearchLaws.{least-below, least-none, least-passes, least-hit-le}
 use Rattle.tree.proofs.SoundLaws.{table-passes, next-passed, given-passed, given-not, either, either-left}
-use Rattle.tree.proofs.SoundLaws.{either-right}
+use Rattle.tree.proofs.SoundLaws.{either-right, both, both-of, flip}
+use Rattle.tree.proofs.TreeLaws.{less?}
+use Rattle.tree.proofs.AxisLaws.{false-of}
 
 -- ── a chain of checks ──
 -- the last of four, behind the first three as one
@@ -56,16 +60,69 @@ no-key t x = (
   λ h. none-below (λ k. eqb (at (t .key) k) x) (t .count) .1 (λ j l. ne-eqb _ _ (h j l)),
 )
 
+-- ── another root ──
+-- the search finds one
+pub other-root : (level : List ℕ) (n r : ℕ) → (otherRoot level n r ≡ true) ↔ OtherRoot level n r
+unfolding otherRoot someBelow
+other-root level n r = (there, back)
+  where
+    top : ℕ → Bool
+    top i = eqb (at level i) 0 && not (eqb i r)
+
+    there : otherRoot level n r ≡ true → OtherRoot level n r
+    there e =
+        let l : least top n < n = ltb-true _ _ e in
+        let a = both (eqb (at level (least top n)) 0) _ (least-passes top n l) in
+        record {
+          row = least top n;
+          inside = l;
+          top = eqb-true _ _ (a .0);
+          unlike = eqb-false _ _ (not-true _ (a .1));
+        }
+
+    back : OtherRoot level n r → otherRoot level n r ≡ true
+    back h =
+        let i = h .inside in
+        lt-ltb (least top n) n (omega (
+          arith,
+          least-hit-le top n (h .row) (both-of (eq-eqb _ _ (h .top)) (flip (ne-eqb _ _ (h .unlike)))),
+        ))
+
+-- it finds none exactly if there is none
+pub no-other-root : (level : List ℕ) (n r : ℕ) → (otherRoot level n r ≡ false) ↔ (OtherRoot level n r → ⊥)
+no-other-root level n r = (
+  λ e h. true≢false (sym (other-root level n r .1 h) ∙ e),
+  λ h. false-of (otherRoot level n r) (λ e. h (other-root level n r .0 e)),
+)
+
+-- where row 0 is the only root, every later row is inside
+pub only-root : (level : List ℕ) (n : ℕ) → (OtherRoot level n 0 → ⊥) → (i : ℕ) → i < n → 0 < i → 1 ≤ at level i
+only-root level n h i l p = ⊎-elim (λ (x : 0 < at level i). x)
+    (λ (x : at level i ≤ 0). absurd (h (record { row = i; inside = l; top = omega arith; unlike = λ e. omega arith })))
+    (less? 0 (at level i))
+
 -- ── an insertion ──
 -- refusal 10
-pub piece-ok : (p : Table) → (badPiece p ≡ false) ↔ (Sound p × (at (p .kind) 0 ≡ 0 → ⊥))
+pub record PieceFits (p : Table) : Type 0 where
+  pub piece : Sound p
+  pub root : at (p .kind) 0 ≡ 0 → ⊥
+  pub one : OtherRoot (p .level) (p .count) 0 → ⊥
+
+pub piece-ok : (p : Table) → (badPiece p ≡ false) ↔ PieceFits p
 unfolding badPiece tableCheck
 piece-ok p = (
-  λ e. let a = neither (not (countOk p) || ltb (firstBad p) (p .count)) _ e in
+  λ e. let c = neither (not (countOk p) || ltb (firstBad p) (p .count) || eqb (at (p .kind) 0) 0) _ e in
+      let a = neither (not (countOk p) || ltb (firstBad p) (p .count)) _ (c .0) in
       let b = neither (not (countOk p)) _ (a .0) in
-      (table-passes p .0 (next-passed _ _ .1 (given-not _ _ (b .0), given-not _ _ (b .1))), eqb-false _ _ (a .1)),
-  λ h. let a = next-passed _ _ .0 (table-passes p .1 (h .0)) in
-      neither-of (neither-of (given-passed _ _ _ (a .0)) (given-passed _ _ _ (a .1))) (ne-eqb _ _ (h .1)),
+      record {
+        piece = table-passes p .0 (next-passed _ _ .1 (given-not _ _ (b .0), given-not _ _ (b .1)));
+        root = eqb-false _ _ (a .1);
+        one = no-other-root (p .level) (p .count) 0 .0 (c .1);
+      },
+  λ h. let a = next-passed _ _ .0 (table-passes p .1 (h .piece)) in
+      neither-of
+      (neither-of (neither-of (given-passed _ _ _ (a .0)) (given-passed _ _ _ (a .1))) (ne-eqb _ _ (h .root)))
+      (no-other-root (p .level) (p .count) 0 .1 (h .one)),
 )
 
 -- its own check passes exactly if refusals 10 to 14 do not apply
@@ -88,8 +145,9 @@ insert-passes t r p = (there, back)
         let o = piece-ok p .0 (given-passed _ _ _ (a .0)) in
         let m = neither _ _ (given-passed _ _ _ (d .1)) in
         record {
-          piece = o .0;
-          root = o .1;
+          piece = o .piece;
+          root = o .root;
+          one = o .one;
           parent = leb-true _ _ (not-false _ (given-passed _ _ _ (b .0)));
           low = λ i l. ltb-false _ _ (none-below tooDeep (p .count) .0 (given-passed _ _ _ (c .0)) i l);
           fresh = λ i l. no-key t (at (p .key) i) .0
@@ -101,7 +159,7 @@ insert-passes t r p = (there, back)
     back : InsertFits t r p → insertCheck t r p ≡ Passed
     back h =
         next-passed _ _ .1 (
-          given-not _ _ (piece-ok p .1 (h .piece, h .root)),
+          given-not _ _ (piece-ok p .1 (record { piece = h .piece; root = h .root; one = h .one })),
           next-passed _ _ .1 (
             given-not _ _ (ap not (le-leb _ _ (h .parent))),
             next-passed _ _ .1 (
@@ -116,10 +174,24 @@ insert-passes t r p = (there, back)
         )
 
 -- ── a deletion ──
--- its own check, refusal 15, passes exactly if the row is not row 0
-pub delete-passes : (t : Table) (r : ℕ) → (deleteCheck t r ≡ Passed) ↔ (r ≡ 0 → ⊥)
+-- its own check, refusal 15, passes exactly if the row is not the only root
+pub delete-passes : (t : Table) (r : ℕ) → (deleteCheck t r ≡ Passed) ↔ DeleteFits t r
 unfolding deleteCheck
-delete-passes t r = (λ e. eqb-false _ _ (given-passed _ _ _ e), λ h. given-not _ _ (ne-eqb _ _ h))
+delete-passes t r = (
+  λ e. record {
+    remains = λ z. other-root (t .level) (t .count) r .0
+        (not-false _ (second (eq-eqb (at (t .level) r) 0 z) (given-passed _ _ _ e)));
+  },
+  λ h. given-not _ _ (go (eqb (at (t .level) r) 0) refl h),
+)
+  where
+    second : {a b : Bool} → a ≡ true → (a && b) ≡ false → b ≡ false
+    second {a} {b} p e = sym (ap (λ (x : Bool). x && b) p) ∙ e
+
+    go : (b : Bool) → eqb (at (t .level) r) 0 ≡ b → DeleteFits t r
+        → (b && not (otherRoot (t .level) (t .count) r)) ≡ false
+    go true p h = ap not (other-root (t .level) (t .count) r .1 (h .remains (eqb-true _ _ p)))
+    go false p h = refl
 
 -- ── a renaming ──
 -- its own check passes exactly if refusal 16 does not apply

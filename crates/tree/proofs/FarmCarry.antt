@@ -97,9 +97,13 @@ cases =
     record { call = farmPairs 0 (pos 1) 4 4; gives = refuses 17 0 4 4 } ∷
     record { call = farmPairs 11 (pos 1) 2 4; gives = refuses 17 0 2 4 } ∷
     record { call = pairs [] [] 10 0 (pos 0); gives = refuses 17 0 4 4 } ∷
-    -- 17: it falls below 1 once the move is added; at 1 all rows before it but row 0 go
-    record { call = farmPairs 4 (negsuc 3) 4 4; gives = refuses 17 0 4 4 } ∷
+    -- 17: it falls below 0 once the move is added; at 0 all rows before it go, at 1 all of them but row 0
+    record { call = farmPairs 4 (negsuc 4) 4 4; gives = refuses 17 0 4 4 } ∷
+    record { call = farmPairs 4 (negsuc 3) 4 4; gives = gives 3 (7 ∷ []) (2 ∷ []) } ∷
     record { call = farmPairs 4 (negsuc 2) 4 4; gives = gives 3 (7 ∷ []) (3 ∷ []) } ∷
+    -- 17: no row would be left; one is enough
+    record { call = farmPairs 10 (negsuc 9) 4 4; gives = refuses 17 0 4 4 } ∷
+    record { call = farmPairs 9 (negsuc 8) 4 4; gives = gives 4 [] [] } ∷
     -- 17: the new count would be 4,097; 4,096 is fine
     record { call = pairs (5 ∷ []) (4095 ∷ []) 4096 1 (pos 1); gives = refuses 17 0 4 4 } ∷
     record { call = pairs (5 ∷ []) (4094 ∷ []) 4095 1 (pos 1); gives = gives 3 (5 ∷ []) (4095 ∷ []) } ∷

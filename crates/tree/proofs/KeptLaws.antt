@@ -1,6 +1,6 @@
 -- What the kept count counts, in 01's words: the pairs that remain are given ones, each once (`kept-once`), and
 -- a given one remains exactly if it is not redundant: `kept-below` on axes 3 and 4, `kept-above` on 6 and 7,
--- `kept-one` and `kept-same` (one pair per role) on 8 and 9, `kept-all` on the others. `kept-split`: roles are
+-- `kept-one` and `kept-same` (one pair per role and tree) on 8 and 9, `kept-all` on the others. `kept-split`: roles are
 -- counted apart. Assumes nothing.
 use mathlib.Core.Path.{_≡_, refl, sym, ap, ap₂, subst, _∙_}
 use mathlib.Core.Logic.{_⊎_, inl, inr, ⊎-elim, _↔_}
@@ -12,7 +12,7 @@ use native.Mathlib.Omega.{arith}
 use borrow.Author.Tests.{eqb-true, eq-eqb, ne-eqb, ltb-false, le-ltb}
 use lib.Dec.{eqb, ltb}
 use lib.ListN.{length, length-append}
-use Rattle.tree.specs.Tree.{ancestor}
+use Rattle.tree.specs.Tree.{ancestor, root, sameTree}
 use Rattle.tree.specs.Pairs.{Pair, pair, some}
 use Rattle.tree.specs.Kept.{drops, remaining, keptCount}
 use Rattle.tree.proofs.SoundLaws.{either}
@@ -20,6 +20,10 @@ use Rattle.tree.proofs.AcceptLaws.{neither}
 use Rattle.tree.proofs.StepLaws.{In, some-in}
 use Rattle.tree.proofs.LowestLaws.{lowest}
 use Rattle.tree.proofs.SplitLaws.{RolesBelow}
+
+-- of two tests the first passes and not both, so not the second
+second : {a b : Bool} → a ≡ true → (a && b) ≡ false → b ≡ false
+second {a} {b} p e = sym (ap (λ (x : Bool). x && b) p) ∙ e
 
 -- each stands once
 abbrev pub Once : List Pair → Type 0
@@ -46,7 +50,7 @@ module _ (axis : ℕ) (level : List ℕ) where
   in-again p ps i = some-in (λ c. eqb c (p .row)) (p .role) ps .1 (p .row, i, eq-eqb (p .row) (p .row) refl)
 
   -- those of ps remain that are not redundant
-  remaining-in : (all ps : List Pair) (q : Pair)
+  pub remaining-in : (all ps : List Pair) (q : Pair)
       → In q (remaining axis level all ps) ↔ (In q ps × (dropped all q ≡ false))
   unfolding remaining
   remaining-in all ps q = (there ps, λ h. back ps (h .0) (h .1))
@@ -153,29 +157,48 @@ module _ (axis : ℕ) (level : List ℕ) where
       (λ d. ⊎-elim (λ e. rw e) (⊎-elim (λ e. rw e) (⊎-elim (λ e. rw e) (⊎-elim (λ e. rw e) (λ e. rw e)))) g) in
       (λ i. k .0 i .0, λ i. k .1 (i, λ d j. refl))
 
-  -- on 8 and 9 the pair on the least row of its role remains
+  -- on 8 and 9 the pair on the least row of its role in its tree remains
   kept-least : (axis ≡ 8) ⊎ (axis ≡ 9) → (ps : List Pair) (p : Pair)
-      → In p (kept ps) ↔ (In p ps × Free ps p (λ d. ltb d (p .row)))
+      → In p (kept ps) ↔ (In p ps × Free ps p (λ d. sameTree level (p .row) d && ltb d (p .row)))
   unfolding drops
   kept-least g ps p = kept-by ps p _ (λ d. ⊎-elim (λ e. rw e) (λ e. rw e) g)
 
-  -- 01: on 8 and 9 one pair per role remains: two of one role are the same
+  -- 02, E2: on 8 and 9 one pair per role and tree remains: two of one role in one tree are the same
   pub kept-same : (axis ≡ 8) ⊎ (axis ≡ 9) → (ps : List Pair) (p q : Pair)
-      → In p (kept ps) → In q (kept ps) → p .role ≡ q .role → p ≡ q
-  kept-same g ps p q i j e =
+      → In p (kept ps) → In q (kept ps) → p .role ≡ q .role → root level (p .row) ≡ root level (q .row) → p ≡ q
+  unfolding sameTree
+  kept-same g ps p q i j e o =
       let a = kept-least g ps p .0 i in
       let b = kept-least g ps q .0 j in
-      let u : p .row ≤ q .row =
-      ltb-false _ _ (a .1 (q .row) (subst (λ (r : ℕ). In (pair r (q .row)) ps) (sym e) (b .0))) in
-      let v : q .row ≤ p .row = ltb-false _ _ (b .1 (p .row) (subst (λ (r : ℕ). In (pair r (p .row)) ps) e (a .0))) in
+      let u : p .row ≤ q .row = ltb-false _ _ (second (eq-eqb (root level (p .row)) (root level (q .row)) o)
+      (a .1 (q .row) (subst (λ (r : ℕ). In (pair r (q .row)) ps) (sym e) (b .0)))) in
+      let v : q .row ≤ p .row = ltb-false _ _ (second (eq-eqb (root level (q .row)) (root level (p .row)) (sym o))
+      (b .1 (p .row) (subst (λ (r : ℕ). In (pair r (p .row)) ps) e (a .0)))) in
       ap₂ pair e (le-antisymm u v)
 
-  -- and every role that has a pair keeps one
+  -- and every role that has a pair in a tree keeps one in that tree
   pub kept-one : (axis ≡ 8) ⊎ (axis ≡ 9) → (ps : List Pair) (p : Pair) → In p ps
-      → (c : ℕ) × In (pair (p .role) c) (kept ps)
+      → (c : ℕ) × (In (pair (p .role) c) (kept ps) × (root level c ≡ root level (p .row)))
+  unfolding sameTree
   kept-one g ps p i =
-      let m = lowest (p .role) ps (p .row) i in
-      (m .row, kept-least g ps (pair (p .role) (m .row)) .1 (m .held, λ d j. le-ltb d (m .row) (m .least d j)))
+      let m = lowest (sameTree level (p .row)) (p .role) ps (p .row) i
+      (eq-eqb (root level (p .row)) (root level (p .row)) refl) in
+      let o : root level (p .row) ≡ root level (m .row) = eqb-true _ _ (m .passes) in (
+        m .row,
+        (
+          kept-least g ps (pair (p .role) (m .row)) .1 (
+            m .held,
+            λ d j. go (eqb (root level (m .row)) (root level d)) refl
+                (λ q. m .least d j (eq-eqb (root level (p .row)) (root level d) (o ∙ q))),
+          ),
+          sym o,
+        ),
+      )
+    where
+      go : {c d : ℕ} (b : Bool) → eqb (root level c) (root level d) ≡ b → (root level c ≡ root level d → c ≤ d)
+          → (b && ltb d c) ≡ false
+      go {c} {d} true q h = le-ltb d c (h (eqb-true _ _ q))
+      go false q h = refl
 
 -- ── roles are counted apart ──
 -- some of two lists

@@ -2,6 +2,7 @@ pub mod SearchLaws
 pub mod TreeLaws
 pub mod SoundLaws
 pub mod AxisLaws
+pub mod RootLaws
 pub mod LevelLaws
 pub mod StepLaws
 pub mod AscendLaws
@@ -18,6 +19,7 @@ pub mod SplitLaws
 pub mod LowestLaws
 pub mod KeptLaws
 pub mod AcceptLaws
+pub mod LastRootLaws
 pub mod ColumnLaws
 pub mod Nodes
 pub mod NodeLaws
@@ -33,3 +35,8 @@ pub mod EditSound
 pub mod FarmCalls
 pub mod Farm
 pub mod FarmCarry
+pub mod Farms
+pub mod OneTreeLaws
+pub mod PartLaws
+pub mod PartStep
+pub mod UnionLaws

@@ -20,10 +20,10 @@ move-adds moved a b w e l =
     let z : w ≡ w - a + a = omega arith in
     ap (λ (n : ℕ). pos n +ℤ moved) z ∙ +ℤ-assoc (pos (w - a)) (pos a) moved ∙ ap (λ (m : ℤ). pos (w - a) +ℤ m) e
 
--- a signed number that is at least 1 is a row number
-at-least-one : (z : ℤ) → leZ (pos 1) z ≡ true → (n : ℕ) × (z ≡ pos n) × (1 ≤ n)
-at-least-one (pos n) e = (n, refl, leb-true 1 n e)
-at-least-one (negsuc n) e = absurd (false≢true e)
+-- a signed number that is at least m is a row number
+at-least : (m : ℕ) (z : ℤ) → leZ (pos m) z ≡ true → (n : ℕ) × (z ≡ pos n) × (m ≤ n)
+at-least m (pos n) e = (n, refl, leb-true m n e)
+at-least m (negsuc n) e = absurd (false≢true e)
 
 -- the tests of refusal 17 pass exactly if the move fits
 pub move-ok : (old first : ℕ) (moved : ℤ) → (moveOk old first moved ≡ true) ↔ MoveFits old first moved
@@ -32,20 +32,19 @@ move-ok old first moved = (there, back)
   where
     there : moveOk old first moved ≡ true → MoveFits old first moved
     there e =
-        let a = both (leb 1 first && leb first old && leZ (pos 1) (pos first +ℤ moved)
+        let a = both (leb 1 first && leb first old && leZ (pos 0) (pos first +ℤ moved)
         && leZ (pos 1) (pos old +ℤ moved)) _ e in
-        let b = both (leb 1 first && leb first old && leZ (pos 1) (pos first +ℤ moved)) _ (a .0) in
+        let b = both (leb 1 first && leb first old && leZ (pos 0) (pos first +ℤ moved)) _ (a .0) in
         let c = both (leb 1 first && leb first old) _ (b .0) in
         let d = both (leb 1 first) _ (c .0) in
-        let (to, lands, behind) = at-least-one (pos first +ℤ moved) (c .1) in
-        let (new, leaves, rows) = at-least-one (pos old +ℤ moved) (b .1) in
+        let (to, lands, _) = at-least 0 (pos first +ℤ moved) (c .1) in
+        let (new, leaves, rows) = at-least 1 (pos old +ℤ moved) (b .1) in
         record {
           to = to;
           new = new;
           some = leb-true _ _ (d .0);
           within = leb-true _ _ (d .1);
           lands = lands;
-          behind = behind;
           leaves = leaves;
           rows = rows;
           few = leb-true new 4096 (subst (λ (z : ℤ). leZ z (pos 4096) ≡ true) leaves (a .1));
@@ -57,7 +56,7 @@ move-ok old first moved = (there, back)
         (both-of
         (both-of
         (both-of (le-leb _ _ (h .some)) (le-leb _ _ (h .within)))
-        (rw (h .lands) (le-leb _ _ (h .behind))))
+        (rw (h .lands) (le-leb 0 (h .to) (omega arith))))
         (rw (h .leaves) (le-leb _ _ (h .rows))))
         (rw (h .leaves) (le-leb _ _ (h .few)))
 

@@ -12,13 +12,13 @@ use native.Mathlib.Nat.{zero-sub}
 use native.Mathlib.Numerals.{unary-clauses}
 use native.Mathlib.Omega.{arith}
 use borrow.Author.Tests.{leb-true, le-leb}
-use lib.Dec.{eqb, leb}
+use lib.Dec.{eqb, ltb, leb}
 use lib.ListN.{take, drop, length-take}
 use lib.Seq.{take-take, getD-take}
-use Rattle.tree.specs.Search.{nearest}
+use Rattle.tree.specs.Search.{someBelow, nearest}
 use Rattle.tree.specs.Table.{Table, at, shortest, countOk, SameRows}
 use Rattle.tree.specs.Sound.{levelOk, runOf, sizeOf, sizeOk, rowOf, keyOk, restOk, rowOk, firstBad}
-use Rattle.tree.specs.Tree.{parent, above, ancestor, siblings}
+use Rattle.tree.specs.Tree.{parent, above, ancestor, siblings, root, sameTree, otherRoot}
 use Rattle.tree.specs.Axis.{following, preceding, onAxis}
 use Rattle.tree.specs.Test.{passes}
 use Rattle.tree.specs.Pairs.{Pair, pairsOf, withRole, some, distinct}
@@ -100,15 +100,34 @@ module _ (n : ℕ) (level : List ℕ) where
   unfolding ancestor
   cut-ancestor c w l = cut-above c w w l
 
+  -- the root
+  cut-root : (w : ℕ) → w < n → root (take n level) w ≡ root level w
+  unfolding root
+  cut-root w l = nearest-ext _ _ (suc w) (λ k m. ap (λ (a : ℕ). eqb a 0) (getD-take n level k 0 (omega arith)))
+
   -- the axes
   cut-axis : (x c w : ℕ) → c < n → w < n → onAxis x (take n level) c w ≡ onAxis x level c w
-  unfolding onAxis following preceding siblings
-  cut-axis x c w m l = simp (cut-parent c m, cut-parent w l, cut-ancestor c w l, cut-ancestor w c m)
+  unfolding onAxis following preceding siblings sameTree
+  cut-axis x c w m l = simp (
+    cut-parent c m,
+    cut-parent w l,
+    cut-ancestor c w l,
+    cut-ancestor w c m,
+    cut-root c m,
+    cut-root w l,
+  )
 
   -- which pairs are redundant
   cut-drops : (x c d : ℕ) → c < n → d < n → drops x (take n level) c d ≡ drops x level c d
-  unfolding drops
-  cut-drops x c d m l = simp (cut-ancestor c d l, cut-ancestor d c m)
+  unfolding drops sameTree
+  cut-drops x c d m l = simp (cut-ancestor c d l, cut-ancestor d c m, cut-root c m, cut-root d l)
+
+-- another root
+pub cut-other : (n : ℕ) (level : List ℕ) (r : ℕ) → otherRoot (take n level) n r ≡ otherRoot level n r
+unfolding otherRoot someBelow
+cut-other n level r =
+    ap (λ (k : ℕ). ltb k n)
+    (least-ext _ _ n (λ i l. ap (λ (x : ℕ). eqb x 0 && not (eqb i r)) (getD-take n level i 0 l)))
 
 -- ── the check and the find ──
 -- the row of a key among the first m of n rows
@@ -173,7 +192,7 @@ some-ext f g r (p ∷ ps) h =
     ap₂ (λ (x y : Bool). (eqb (p .role) r && x) || y) (h p (inl refl)) (some-ext f g r ps (λ q i. h q (inr i)))
 
 -- the row of every pair is in use
-abbrev Inside : ℕ → List Pair → Type 0
+abbrev pub Inside : ℕ → List Pair → Type 0
 Inside n ps = (p : Pair) → In p ps → p .row < n
 
 module _ (t : Table) (a : Ask) (ps : List Pair) (h : Inside (t .count) ps) where

@@ -1,6 +1,6 @@
--- Grants that move with their rows: 02, E1. A list of pairs is carried over an edit by the old count and by what the
--- edit answered, its first moved row and its move. For edits that the library accepted each pair keeps its key:
--- carry/proofs/GrantLaws.antt. Assumes nothing.
+-- Grants that move with their rows: 02, E1, and E2, by which the first moved row may come to row 0. A list of pairs is
+-- carried over an edit by the old count and by what the edit answered, its first moved row and its move. For edits that
+-- the library accepted each pair keeps its key: carry/proofs/GrantLaws.antt. Assumes nothing.
 use Prim.Native.Nat.{ℕ}
 use mathlib.Core.Bool.{Bool, cond, not, _&&_}
 use mathlib.Core.List.{List, [], _∷_}
@@ -38,10 +38,10 @@ carried first moved ps = carriedBy (wasDeleted first moved) (λ w. natAbs (rowAf
 unfoldable pub oldCountOk : ℕ → Bool
 oldCountOk old = leb 1 old && leb old 4096
 
--- the first moved row is 1 to the old count and at least 1 once the move is added, and the new count is 1 to 4,096
+-- the first moved row is 1 to the old count and not below 0 once the move is added, and the new count is 1 to 4,096
 unfoldable pub moveOk : ℕ → ℕ → ℤ → Bool
 moveOk old first moved =
-    leb 1 first && leb first old && leZ (pos 1) (pos first +ℤ moved)
+    leb 1 first && leb first old && leZ (pos 0) (pos first +ℤ moved)
     && leZ (pos 1) (pos old +ℤ moved) && leZ (pos old +ℤ moved) (pos 4096)
 
 -- what carrying answers, and the result columns as it leaves them

@@ -19,7 +19,6 @@ pub record MoveFits (old first : ℕ) (moved : ℤ) : Type 0 where
   pub some : 1 ≤ first
   pub within : first ≤ old
   pub lands : pos first +ℤ moved ≡ pos to
-  pub behind : 1 ≤ to
   pub leaves : pos old +ℤ moved ≡ pos new
   pub rows : 1 ≤ new
   pub few : new ≤ 4096

@@ -15,3 +15,4 @@ pub mod Refusal
 pub mod Outcome
 pub mod Carry
 pub mod CarryRules
+pub mod Trees

@@ -69,12 +69,12 @@ fn some_first(random: &mut Random, old_count: usize) -> usize {
 fn some_move(random: &mut Random, old_count: usize, first: usize) -> i64 {
     let so_that = |from: usize, comes_to: i64| comes_to.wrapping_sub(from as i64);
     match random.below(20) {
-        0 | 1 => so_that(first, random.pick(&[0, 1, 2])),
+        0 | 1 => so_that(first, random.pick(&[-1, 0, 1])),
         2..=4 => so_that(old_count, random.pick(&[0, 1, 4_096, 4_097])),
         5 => random.pick(&[i64::MIN, i64::MIN + 1, i64::MAX, i64::MAX - 1, -(1 << 32), 1 << 32]),
         6 => random.number() as i64,
         7 => 0,
         8..=11 => random.within(1, 12) as i64,
-        _ => -(random.below(first.clamp(1, old_count)) as i64),
+        _ => -(random.within(0, first.clamp(1, old_count)) as i64),
     }
 }

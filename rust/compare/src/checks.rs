@@ -5,17 +5,19 @@ use crate::damage::spoil;
 use crate::judge::{Difference, Judge};
 use crate::random::Random;
 use crate::series::{self, Series};
-use crate::tables::{add_spare_rows, lengthen, some_key, sound};
+use crate::tables::{add_spare_rows, lengthen, some_key, sound, sound_trees};
 
 /// How many calls on small tables the default run makes.
 pub const CALLS: u64 = 300_000;
 
-/// Small tables, then tall ones about the deepest level, then large ones about the most rows.
+/// Small tables, then tall ones about the deepest level, then large ones about the most rows and
+/// the most trees.
 pub fn run(judge: &mut Judge<'_>, seed: u64, calls: u64) -> Result<(), Difference> {
-    let all: [Series; 3] = [
+    let all: [Series; 4] = [
         ("check small", calls, small),
-        ("check tall", calls / 15, tall),
+        ("check tall", calls / 8, tall),
         ("check large", calls / 300, large),
+        ("check most trees", calls / 1_200, most_trees),
     ];
     series::run("check and find", seed, &all, |_, case| judge.pose(case).map(drop))
 }
@@ -28,11 +30,12 @@ fn small(random: &mut Random) -> Case {
     maybe_spoiled(random, table, rows)
 }
 
-/// A table about 64 rows long that may go down to level 64 and more.
+/// A tree about 64 rows long that may go down to level 64 and more, or a few such trees.
 fn tall(random: &mut Random) -> Case {
-    let rows = random.within(62, 80);
+    let trees = random.pick(&[1, 2, 2, 3]);
+    let rows = random.within(62, 80) + 30 * (trees - 1);
     let deepest = random.pick(&[62, 63, 63, 63, 63, 64]);
-    let mut table = sound(random, rows, deepest);
+    let mut table = sound_trees(random, rows, trees, deepest);
     add_spare_rows(random, &mut table, 3);
     maybe_spoiled(random, table, rows)
 }
@@ -49,6 +52,14 @@ fn large(random: &mut Random) -> Case {
         let spare = random.pick(&[0, 1, 100]);
         lengthen(random, column, spare);
     }
+    maybe_spoiled(random, table, rows)
+}
+
+/// About as many trees as a table can have, of one row each.
+fn most_trees(random: &mut Random) -> Case {
+    let rows = random.pick(&[4_095, 4_096, 4_096, 4_096, 4_096, 4_097]);
+    let mut table = sound_trees(random, rows, rows, 63);
+    add_spare_rows(random, &mut table, 3);
     maybe_spoiled(random, table, rows)
 }
 

@@ -1,6 +1,8 @@
 //! Two edits in both orders: within the conditions of the rules both orders are accepted, give the
 //! same rows in use, and carry pairs to the same list.
 
+mod seen;
+
 use crate::case::{Call, Lists};
 use crate::edits::fitting_edit;
 use crate::judge::{Difference, Judge};
@@ -9,37 +11,10 @@ use crate::lists::ascending_pairs;
 use crate::progress::Progress;
 use crate::random::Random;
 use crate::tables::{lengthen, sound};
-use crate::tally::at_least;
-use std::fmt;
+use seen::{Outside, Pairs};
 
 /// How many pairs within the conditions the default run makes.
 pub const PAIRS: u64 = 150_000;
-/// How many of them must be of each of the nine pairs of edits.
-const LEAST_OF_EACH: u64 = 2_000;
-
-/// Why a pair of accepted edits lies outside the conditions.
-#[derive(Clone, Copy)]
-enum Outside {
-    SameRow,
-    OneAboveOther,
-    KeyInBoth,
-    NoRoomForBoth,
-}
-
-/// What became of the pairs outside the conditions.
-#[derive(Clone, Copy, Default)]
-struct Fate {
-    refused: u64,
-    differed: u64,
-    same: u64,
-}
-
-/// What came up.
-#[derive(Default)]
-struct Pairs {
-    within: [[u64; 3]; 3],
-    outside: [Fate; 4],
-}
 
 /// Poses pairs until there are so many within the conditions.
 pub fn run(judge: &mut Judge<'_>, seed: u64, pairs: u64) -> Result<(), Difference> {
@@ -126,13 +101,13 @@ impl Pair {
         };
         match (self.outside(), same) {
             (None, Some(true)) => {
-                seen.within[kind_of(one)][kind_of(other)] += 1;
+                seen.add_within(&self.edits, self.edits_two_trees(), self.roots_deleted() > 0);
                 Ok(true)
             }
             (None, Some(false)) => Err(self.tell("both orders are accepted and differ")),
             (None, None) => Err(self.tell("an order is refused")),
             (Some(outside), same) => {
-                seen.outside[outside as usize].add(same);
+                seen.add_outside(outside, same);
                 Ok(false)
             }
         }
@@ -147,6 +122,8 @@ impl Pair {
             Some(Outside::SameRow)
         } else if self.is_ancestor(rows[0], rows[1]) || self.is_ancestor(rows[1], rows[0]) {
             Some(Outside::OneAboveOther)
+        } else if self.roots_deleted() == 2 {
+            Some(Outside::RootsDeleted)
         } else if pieces[0].iter().any(|key| pieces[1].contains(key)) {
             Some(Outside::KeyInBoth)
         } else if added > 0 && self.start.count + added > self.start.table.shortest().min(4_096) {
@@ -164,6 +141,22 @@ impl Pair {
         };
         let keys = &self.start.table.key[..self.start.count];
         keys.iter().position(|&key| key == wanted).expect("the edit was accepted")
+    }
+
+    /// How many of the two edits delete a root.
+    fn roots_deleted(&self) -> usize {
+        let deletes_root = |edit: &&Call| {
+            matches!(edit, Call::Delete { .. }) && self.start.table.level[self.named_row(edit)] == 0
+        };
+        self.edits.iter().filter(deletes_root).count()
+    }
+
+    /// Whether the named rows stand in two trees: one starts after the first row, and no later
+    /// than at the second.
+    fn edits_two_trees(&self) -> bool {
+        let [one, other] = self.edits.each_ref().map(|edit| self.named_row(edit));
+        let levels = &self.start.table.level[one.min(other) + 1..=one.max(other)];
+        levels.contains(&0)
     }
 
     /// By parents: the nearest earlier row whose level is one less.
@@ -210,55 +203,5 @@ fn share_a_key(edits: &mut [Call; 2]) {
         if let (Some(key), Some(place)) = (one.piece.key.first(), other.piece.key.last_mut()) {
             *place = *key;
         }
-    }
-}
-
-/// Insertion, deletion, rename.
-fn kind_of(edit: &Call) -> usize {
-    match edit {
-        Call::Insert(_) => 0,
-        Call::Delete { .. } => 1,
-        _ => 2,
-    }
-}
-
-impl Fate {
-    fn add(&mut self, same: Option<bool>) {
-        match same {
-            None => self.refused += 1,
-            Some(false) => self.differed += 1,
-            Some(true) => self.same += 1,
-        }
-    }
-}
-
-impl Pairs {
-    /// Says which of the nine pairs of edits came up less often than it must.
-    fn demand(&self) -> Result<(), String> {
-        for times in self.within.iter().flatten() {
-            at_least("a pair of edits", *times, LEAST_OF_EACH)?;
-        }
-        for fate in &self.outside {
-            let all = fate.refused + fate.differed + fate.same;
-            at_least("a pair outside a condition", all, LEAST_OF_EACH / 10)?;
-        }
-        Ok(())
-    }
-}
-
-impl fmt::Display for Pairs {
-    fn fmt(&self, out: &mut fmt::Formatter<'_>) -> fmt::Result {
-        writeln!(out, "pairs of edits within the conditions, the same in both orders:")?;
-        writeln!(out, "{:>12}{:>11}{:>11}{:>11}", "first", "insert", "delete", "rename")?;
-        for (name, times) in ["insert", "delete", "rename"].iter().zip(&self.within) {
-            writeln!(out, "{name:>12}{:>11}{:>11}{:>11}", times[0], times[1], times[2])?;
-        }
-        writeln!(out, "pairs outside them, each edit accepted by itself:")?;
-        writeln!(out, "{:>22}{:>11}{:>11}{:>11}", "", "refused", "differed", "the same")?;
-        let names = ["the same row", "one above the other", "a key in both", "no room for both"];
-        for (name, fate) in names.iter().zip(&self.outside) {
-            writeln!(out, "{name:>22}{:>11}{:>11}{:>11}", fate.refused, fate.differed, fate.same)?;
-        }
-        Ok(())
     }
 }

@@ -34,12 +34,14 @@ fn spoil_count(random: &mut Random, table: &mut Columns, count: &mut usize) {
 
 /// Breaks, as a rule, one of the five rules at the row; now and then the row stays sound.
 fn spoil_row(random: &mut Random, table: &mut Columns, row: usize) {
-    match random.below(6) {
+    match random.below(7) {
         0 => table.level[row] = other_level(random, table, row),
         1 => table.size[row] = near(random, table.size[row]),
         2 => table.kind[row] = random.pick(&[0, 1, 2, 3, 4, 5, 6, usize::MAX]),
         3 => table.name[row] = random.pick(&[0, 0, 1, 2, usize::MAX]),
         4 => table.key[row] = random.pick(&[0, usize::MAX, 1]),
+        // A document, which is sound where a tree starts.
+        5 => (table.kind[row], table.name[row]) = (0, 0),
         _ => {
             let other = random.below(table.shortest());
             table.key[row] = table.key[other];

@@ -5,17 +5,19 @@ use crate::damage::spoil;
 use crate::judge::{Difference, Judge};
 use crate::random::{scatter, Random};
 use crate::series::{self, Series};
-use crate::tables::{add_spare_rows, chain, lengthen, some_key, sound};
+use crate::tables::{add_spare_rows, chain, lengthen, some_key, some_root, sound, sound_trees};
 
 /// How many edits of small tables the default run makes.
 pub const CALLS: u64 = 400_000;
 
-/// Small tables, then tall ones about the deepest level, then large ones about the most rows.
+/// Small tables, then tall ones about the deepest level, then large ones about the most rows and
+/// the most trees.
 pub fn run(judge: &mut Judge<'_>, seed: u64, calls: u64) -> Result<(), Difference> {
-    let all: [Series; 3] = [
+    let all: [Series; 4] = [
         ("edit small", calls, small),
         ("edit tall", calls / 20, tall),
         ("edit large", calls / 500, large),
+        ("edit most trees", calls / 1_000, most_trees),
     ];
     series::run("edit", seed, &all, |_, case| judge.pose(case).map(drop))
 }
@@ -64,15 +66,25 @@ fn large(random: &mut Random) -> Case {
         add_spare_rows(random, &mut table, 3);
     }
     let call = if random.chance(70) {
-        // The root takes any piece.
-        table.kind[0] = 1;
-        table.name[0] = 1;
-        let parent = table.key[0];
+        // An element that is a root takes any piece.
+        let root = some_root(random, &table, rows);
+        (table.kind[root], table.name[root]) = (1, 1);
+        let parent = table.key[root];
         let piece = fresh_piece(random, piece_rows);
         Call::Insert(Insert { parent, piece, piece_count: piece_rows })
     } else {
         any_edit(random, &table, rows, 600)
     };
+    Case { table, count: rows, call }
+}
+
+/// A table of as many trees as it can have, of one row each.
+fn most_trees(random: &mut Random) -> Case {
+    let rows = 4_096;
+    let table = sound_trees(random, rows, rows, 63);
+    let between = random.below(rows);
+    let row = random.pick(&[0, between, between, rows - 1]);
+    let call = fitting_edit(random, &table, row);
     Case { table, count: rows, call }
 }
 
@@ -97,12 +109,12 @@ fn any_edit(random: &mut Random, table: &Columns, count: usize, most_piece: usiz
 
 fn insertion(random: &mut Random, parent: usize, table: &Columns, most_piece: usize) -> Insert {
     let rows = random.within(1, most_piece);
-    let mut piece = fresh_piece(random, rows);
+    let trees = if random.chance(8) { random.within(1, rows) } else { 1 };
+    let mut piece = fresh_trees(random, rows, trees);
     let mut piece_count = rows;
     add_spare_rows(random, &mut piece, 2);
     if random.chance(8) {
-        piece.kind[0] = 0;
-        piece.name[0] = 0;
+        (piece.kind[0], piece.name[0]) = (0, 0);
     }
     if random.chance(8) {
         spoil(random, &mut piece, &mut piece_count);
@@ -123,7 +135,7 @@ pub fn fitting_edit(random: &mut Random, table: &Columns, row: usize) -> Call {
     let piece = fresh_piece(random, piece_count);
     let insert = Call::Insert(Insert { parent: key, piece, piece_count });
     match (table.kind[row], random.below(4)) {
-        (0, _) | (1, 0 | 1) => insert,
+        (0, 0..=2) | (1, 0 | 1) => insert,
         (1 | 4, 2) => rename,
         _ => delete,
     }
@@ -131,7 +143,12 @@ pub fn fitting_edit(random: &mut Random, table: &Columns, row: usize) -> Call {
 
 /// A sound piece that starts with no document and whose keys no table here has.
 fn fresh_piece(random: &mut Random, rows: usize) -> Columns {
-    let mut piece = sound(random, rows, 63);
+    fresh_trees(random, rows, 1)
+}
+
+/// The same with so many trees.
+fn fresh_trees(random: &mut Random, rows: usize, trees: usize) -> Columns {
+    let mut piece = sound_trees(random, rows, trees, 63);
     if piece.kind[0] == 0 {
         piece.kind[0] = 1;
         piece.name[0] = random.within(1, 4);

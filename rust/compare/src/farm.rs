@@ -1,8 +1,10 @@
-//! The cases that the rules state for the small farm, with the numbers that they state.
+//! The cases that the rules state for the small farm, with the numbers that they state, and cases
+//! of two farms in one table, worked out by hand.
 
 mod carries;
 mod edits;
 mod steps;
+mod two_farms;
 
 use crate::case::{Answer, Call, Case, Columns, Lists};
 use crate::judge::{Difference, Judge};
@@ -37,7 +39,8 @@ pub fn run(judge: &mut Judge<'_>) -> Result<(), Difference> {
     checks(judge)?;
     steps::run(judge)?;
     edits::run(judge)?;
-    carries::run(judge)
+    carries::run(judge)?;
+    two_farms::run(judge)
 }
 
 /// The farm is sound, its keys are found, and level 63 is accepted, 64 refused.

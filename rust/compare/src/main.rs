@@ -25,6 +25,7 @@ mod series;
 mod steps;
 mod tables;
 mod tally;
+mod trees;
 
 use engine::Engine;
 use judge::{Difference, Judge};
@@ -34,13 +35,14 @@ use std::time::Instant;
 use tally::Tally;
 
 /// The random parts of a run: how many items the default run has, and how many calls an item.
-const PARTS: [(Part, u64, u64); 6] = [
+const PARTS: [(Part, u64, u64); 7] = [
     (Part::Check, checks::CALLS, 1),
     (Part::Step, steps::CALLS, 1),
     (Part::Edit, edits::CALLS, 1),
     (Part::Carry, carries::CALLS, 1),
     (Part::Circle, circles::CIRCLES, 6),
-    (Part::Commute, commute::PAIRS, 14),
+    (Part::Commute, commute::PAIRS, 13),
+    (Part::Trees, trees::STEPS, 6),
 ];
 
 fn main() -> ExitCode {
@@ -101,6 +103,7 @@ fn run_part(part: Part, engine: &dyn Engine, seed: u64, items: u64) -> Result<Ta
         Part::Carry => carries::run(&mut judge, seed, items),
         Part::Circle => circles::run(&mut judge, seed, items),
         Part::Commute => commute::run(&mut judge, seed, items),
+        Part::Trees => trees::run(&mut judge, seed, items),
     };
     outcome.map_err(|Difference(told)| told)?;
     judge.tally.print_notes();

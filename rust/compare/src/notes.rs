@@ -1,7 +1,12 @@
 //! What must come up in a run beside the refusals, so that a generator that drifts is noticed.
 
-use crate::case::{Answer, Call, Carry, Case, Lists, Step};
+mod carries;
+mod trees;
+
+use crate::case::{Answer, Call, Case, Lists};
 use crate::options::Part;
+use carries::{CARRIES, CIRCLES};
+use trees::TREES;
 
 const MOST_ROWS: usize = 4_096;
 const MOST_PAIRS: usize = 4_096;
@@ -22,14 +27,20 @@ impl Note {
     }
 }
 
-/// All notes, in the order of the parts.
+/// All notes, in the order of the parts, and those about several trees.
 pub fn all() -> impl Iterator<Item = &'static Note> {
-    CHECKS.iter().chain(&LISTS).chain(&STEPS).chain(&EDITS).chain(&CARRIES).chain(&CIRCLES)
+    let by_part = CHECKS.iter().chain(&LISTS).chain(&STEPS).chain(&EDITS);
+    by_part.chain(&CARRIES).chain(&CIRCLES).chain(&TREES)
 }
 
 /// How many notes there are.
-pub const COUNT: usize =
-    CHECKS.len() + LISTS.len() + STEPS.len() + EDITS.len() + CARRIES.len() + CIRCLES.len();
+pub const COUNT: usize = CHECKS.len()
+    + LISTS.len()
+    + STEPS.len()
+    + EDITS.len()
+    + CARRIES.len()
+    + CIRCLES.len()
+    + TREES.len();
 
 const fn check(what: &'static str, least: u64, holds: Holds) -> Note {
     Note { parts: &[Part::Check], what, least, holds }
@@ -45,14 +56,6 @@ const fn step(what: &'static str, least: u64, holds: Holds) -> Note {
 
 const fn edit(what: &'static str, least: u64, holds: Holds) -> Note {
     Note { parts: &[Part::Edit], what, least, holds }
-}
-
-const fn carry(what: &'static str, least: u64, holds: Holds) -> Note {
-    Note { parts: &[Part::Carry], what, least, holds }
-}
-
-const fn circle(what: &'static str, least: u64, holds: Holds) -> Note {
-    Note { parts: &[Part::Circle], what, least, holds }
 }
 
 static CHECKS: [Note; 10] = [
@@ -146,123 +149,8 @@ static EDITS: [Note; 6] = [
     }),
 ];
 
-static CARRIES: [Note; 20] = [
-    carry("old count 0", 1_000, |case, _| case.count == 0),
-    carry("old count 4,097", 1_000, |case, _| case.count == MOST_ROWS + 1),
-    carry("old count 4,096, accepted", 50, |case, answer| {
-        answer.refusal == 0 && case.count == MOST_ROWS
-    }),
-    carry("first moved row 0", 1_000, |case, answer| {
-        answer.refusal == 17 && carry_of(case).first == 0
-    }),
-    carry("first moved row one above the old count", 1_000, |case, answer| {
-        answer.refusal == 17 && carry_of(case).first == case.count + 1
-    }),
-    carry("the largest first moved row", 1_000, |case, answer| {
-        answer.refusal == 17 && carry_of(case).first == usize::MAX
-    }),
-    carry("first moved row the old count, accepted", 1_000, |case, answer| {
-        answer.refusal == 0 && carry_of(case).first == case.count
-    }),
-    carry("first moved row comes to row 0", 1_000, |case, answer| {
-        answer.refusal == 17 && comes_to(case) == 0
-    }),
-    carry("first moved row comes to row 1, accepted", 1_000, |case, answer| {
-        answer.refusal == 0 && comes_to(case) == 1
-    }),
-    carry("new count 0", 1_000, |case, answer| answer.refusal == 17 && new_count(case) == 0),
-    carry("new count 1, accepted", 1_000, |case, answer| {
-        answer.refusal == 0 && new_count(case) == 1
-    }),
-    carry("new count 4,096, accepted", 1_000, |case, answer| {
-        answer.refusal == 0 && new_count(case) == MOST_ROWS as i128
-    }),
-    carry("new count 4,097", 1_000, |case, answer| {
-        answer.refusal == 17 && new_count(case) == MOST_ROWS as i128 + 1
-    }),
-    carry("the least move there is", 500, |case, answer| {
-        answer.refusal == 17 && carry_of(case).moved == i64::MIN
-    }),
-    carry("the largest move there is", 500, |case, answer| {
-        answer.refusal == 17 && carry_of(case).moved == i64::MAX
-    }),
-    carry("a pair out of order, a row not in use and a bad move", 50, |case, answer| {
-        let outside = lists_of(case).row.iter().any(|&row| row >= case.count);
-        answer.refusal == 4 && outside && carry_of(case).first == 0
-    }),
-    carry("a bad move, and too little room as well", 1_000, |case, answer| {
-        answer.refusal == 17 && lists_of(case).room() == 0 && !lists_of(case).row.is_empty()
-    }),
-    carry("a bad move of no pairs", 1_000, |case, answer| {
-        answer.refusal == 17 && lists_of(case).row.is_empty()
-    }),
-    carry("some pairs dropped, some moved", 1_000, |case, answer| {
-        let Carry { lists, first, .. } = carry_of(case);
-        let moved = lists.row.iter().filter(|&row| row >= first).count();
-        moved > 0 && answer.first >= moved && answer.first < lists.row.len()
-    }),
-    carry("all pairs dropped", 1_000, |case, answer| {
-        answer == Answer::default() && !lists_of(case).row.is_empty()
-    }),
-];
-
-/// Carries over accepted edits, and the steps after them.
-static CIRCLES: [Note; 9] = [
-    circle("an insertion that moves a pair", 1_000, |case, _| {
-        carries(case, |carry| carry.moved > 0 && moves_a_pair(carry))
-    }),
-    circle("a deletion that moves a pair", 1_000, |case, _| {
-        carries(case, |carry| carry.moved < 0 && moves_a_pair(carry))
-    }),
-    circle("a deletion that drops a pair", 1_000, |case, answer| {
-        carries(case, |carry| answer.first < carry.lists.row.len())
-    }),
-    circle("a deletion that drops no pair", 1_000, |case, answer| {
-        carries(case, |carry| carry.moved < 0 && answer.first == carry.lists.row.len())
-    }),
-    circle("a rename", 1_000, |case, _| carries(case, |carry| carry.moved == 0)),
-    circle("an edit at the very end", 1_000, |case, _| {
-        carries(case, |carry| carry.moved != 0 && carry.first == case.count)
-    }),
-    circle("a pair on the first moved row", 1_000, |case, _| {
-        carries(case, |carry| carry.lists.row.contains(&carry.first))
-    }),
-    circle("a pair on the last deleted row", 1_000, |case, _| {
-        carries(case, |carry| carry.moved < 0 && carry.lists.row.contains(&(carry.first - 1)))
-    }),
-    circle("a step with carried pairs, accepted", 1_000, |case, answer| {
-        let steps = |step: &Step| answer.refusal == 0 && !step.lists.row.is_empty();
-        matches!(&case.call, Call::Step(step) if steps(step))
-    }),
-];
-
 fn lists_of(case: &Case) -> &Lists {
     case.lists().expect("this part poses only calls with a list of pairs")
-}
-
-fn carry_of(case: &Case) -> &Carry {
-    match &case.call {
-        Call::Carry(carry) => carry,
-        _ => unreachable!("this part poses only carries"),
-    }
-}
-
-/// Whether the call is a carry of which this holds.
-fn carries(case: &Case, holds: impl Fn(&Carry) -> bool) -> bool {
-    matches!(&case.call, Call::Carry(carry) if holds(carry))
-}
-
-fn moves_a_pair(carry: &Carry) -> bool {
-    carry.lists.row.iter().any(|&row| row >= carry.first)
-}
-
-/// Where the first moved row comes to.
-fn comes_to(case: &Case) -> i128 {
-    carry_of(case).first as i128 + i128::from(carry_of(case).moved)
-}
-
-fn new_count(case: &Case) -> i128 {
-    case.count as i128 + i128::from(carry_of(case).moved)
 }
 
 fn piece_rows(case: &Case) -> usize {

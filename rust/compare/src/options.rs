@@ -14,6 +14,8 @@ pub enum Part {
     Circle,
     /// Two edits in both orders.
     Commute,
+    /// A step over several trees, and on each of them.
+    Trees,
 }
 
 /// The options of a run.
@@ -26,7 +28,7 @@ pub struct Options {
 }
 
 const USAGE: &str = "usage: compare [--engine library|plain|piped:COMMAND] [--seed N] [--calls N] \
-                     [--only check|find|step|edit|carry|circle|commute]";
+                     [--only check|find|step|edit|carry|circle|commute|trees]";
 
 impl Options {
     /// Reads the words of the command line.
@@ -60,6 +62,7 @@ fn part(word: &str) -> Result<Part, String> {
         "carry" => Ok(Part::Carry),
         "circle" => Ok(Part::Circle),
         "commute" => Ok(Part::Commute),
+        "trees" => Ok(Part::Trees),
         _ => Err(USAGE.to_string()),
     }
 }

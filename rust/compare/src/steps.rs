@@ -6,18 +6,19 @@ use crate::judge::{Difference, Judge};
 use crate::lists::{few_pairs, lend_some_room, pose_twice, some_pairs};
 use crate::random::Random;
 use crate::series::{self, Series};
-use crate::tables::{add_spare_rows, sound};
+use crate::tables::{add_spare_rows, sound, sound_trees};
 
 /// How many calls on small tables the default run makes.
 pub const CALLS: u64 = 400_000;
 
-/// Small tables, then larger ones. Each step is posed twice, the second time with room by the first
-/// answer.
+/// Small tables, then larger ones, then some of the most trees. Each step is posed twice, the
+/// second time with room by the first answer.
 pub fn run(judge: &mut Judge<'_>, seed: u64, calls: u64) -> Result<(), Difference> {
-    let all: [Series; 3] = [
+    let all: [Series; 4] = [
         ("step small", calls / 2, small),
         ("step middle", calls / 40, middle),
         ("step large", calls / 400, large),
+        ("step most trees", calls / 4_000, most_trees),
     ];
     series::run("step", seed, &all, |random, case| pose_twice(judge, random, case))
 }
@@ -59,6 +60,21 @@ fn large(random: &mut Random) -> Case {
     finished(random, table, rows, pairs, roles)
 }
 
+/// 4,096 rows with half as many trees or as many, and pairs of many roles over all of them.
+fn most_trees(random: &mut Random) -> Case {
+    let rows = 4_096;
+    let trees = random.pick(&[2_048, 4_096, 4_096]);
+    let table = sound_trees(random, rows, trees, 63);
+    let pairs = random.pick(&[500, 1_000, 2_000]);
+    let roles = random.pick(&[1, 200, 200, 200, 4_096]);
+    let mut case = finished(random, table, rows, pairs, roles);
+    if let (Call::Step(step), true) = (&mut case.call, random.chance(50)) {
+        // These count the trees of every role.
+        step.axis = random.pick(&[8, 9]);
+    }
+    case
+}
+
 /// Adds pairs and a question, and spoils some of it.
 fn finished(random: &mut Random, table: Columns, rows: usize, pairs: usize, roles: usize) -> Case {
     let mut table = table;
@@ -72,13 +88,19 @@ fn finished(random: &mut Random, table: Columns, rows: usize, pairs: usize, role
     Case { table, count, call: Call::Step(step) }
 }
 
-/// An axis and a test with its name, as a rule good ones.
-fn question(random: &mut Random) -> Step {
+/// An axis and a test with its name, and no pairs yet.
+pub fn good_question(random: &mut Random) -> Step {
     let mut step =
         Step { axis: random.within(1, 11), test: random.within(0, 7), ..Step::default() };
     if matches!(step.test, 2 | 6) {
         step.test_name = random.within(1, 4);
     }
+    step
+}
+
+/// The same, now and then with something bad about it.
+fn question(random: &mut Random) -> Step {
+    let mut step = good_question(random);
     match random.below(40) {
         0 => step.axis = random.pick(&[0, 12, 13, usize::MAX]),
         1 => step.test = random.pick(&[8, 9, usize::MAX]),

@@ -2,11 +2,12 @@
 
 use crate::case::Columns;
 use crate::random::{scatter, Random};
+use std::iter::once;
 
 /// The ways a tree can look.
 #[derive(Clone, Copy)]
 enum Shape {
-    /// Every row a child of row 0.
+    /// Every row a child of the root.
     Star,
     /// As deep as it may go, again and again.
     Chains,
@@ -21,31 +22,67 @@ enum Shape {
 const SHAPES: [Shape; 5] =
     [Shape::Star, Shape::Chains, Shape::Bushy, Shape::Climbing, Shape::Beside];
 
-/// A sound table of so many rows, with no level above `deepest`, which is not 0.
+/// A sound table of so many rows, with no level above `deepest`, which is not 0. Half of the tables
+/// are one tree.
 pub fn sound(random: &mut Random, rows: usize, deepest: usize) -> Columns {
-    let level = levels(random, rows, deepest);
+    let trees = match random.below(20) {
+        0..=9 => 1,
+        10..=12 => 2,
+        13..=15 => random.within(2, 12),
+        16 | 17 => random.within(1, rows),
+        _ => rows,
+    };
+    sound_trees(random, rows, trees.min(rows), deepest)
+}
+
+/// The same with so many trees: at least one, and no more than there are rows.
+pub fn sound_trees(random: &mut Random, rows: usize, trees: usize, deepest: usize) -> Columns {
+    let roots = roots(random, rows, trees);
+    let level = levels(random, &roots, rows, deepest);
     let size = sizes(&level);
-    let kind = kinds(random, &size);
+    let kind = kinds(random, &roots, &size);
     let name = kind.iter().map(|&kind| name_for(random, kind)).collect();
     Columns { key: keys(random, rows), size, level, kind, name }
 }
 
-fn levels(random: &mut Random, rows: usize, deepest: usize) -> Vec<usize> {
-    let shape = random.pick(&SHAPES);
-    let mut levels = vec![0];
-    while levels.len() < rows {
-        let before = levels[levels.len() - 1];
-        let most = deepest.min(before + 1);
-        let next = match shape {
-            Shape::Star => 1,
-            Shape::Chains if before < deepest => most,
-            Shape::Climbing if random.chance(70) => most,
-            Shape::Beside if random.chance(70) => before.max(1),
-            _ => random.within(1, most),
-        };
-        levels.push(next);
+/// Where the trees start: anywhere, or all but the last are of one row, or all but the first.
+fn roots(random: &mut Random, rows: usize, trees: usize) -> Vec<usize> {
+    let mut later: Vec<usize> = (1..rows).collect();
+    match random.below(4) {
+        0 => {}
+        1 => later.reverse(),
+        _ => random.shuffle(&mut later),
+    }
+    let mut roots = vec![0];
+    roots.extend(&later[..trees - 1]);
+    roots.sort_unstable();
+    roots
+}
+
+/// The levels of trees that start at these rows. Each tree has a shape of its own.
+fn levels(random: &mut Random, roots: &[usize], rows: usize, deepest: usize) -> Vec<usize> {
+    let mut levels = Vec::with_capacity(rows);
+    for &end in roots[1..].iter().chain(once(&rows)) {
+        let shape = random.pick(&SHAPES);
+        levels.push(0);
+        while levels.len() < end {
+            let next = next_level(random, shape, levels[levels.len() - 1], deepest);
+            levels.push(next);
+        }
     }
     levels
+}
+
+/// A level for the row after one of level `before`, in the same tree.
+fn next_level(random: &mut Random, shape: Shape, before: usize, deepest: usize) -> usize {
+    let most = deepest.min(before + 1);
+    match shape {
+        Shape::Star => 1,
+        Shape::Chains if before < deepest => most,
+        Shape::Climbing if random.chance(70) => most,
+        Shape::Beside if random.chance(70) => before.max(1),
+        _ => random.within(1, most),
+    }
 }
 
 /// The sizes that belong to the levels.
@@ -54,13 +91,16 @@ fn sizes(level: &[usize]) -> Vec<usize> {
     (0..level.len()).map(|row| run(row).count()).collect()
 }
 
-fn kinds(random: &mut Random, size: &[usize]) -> Vec<usize> {
+/// Kinds that fit the sizes; now and then a root is a document.
+fn kinds(random: &mut Random, roots: &[usize], size: &[usize]) -> Vec<usize> {
     let mut kinds: Vec<usize> = size
         .iter()
         .map(|&size| if size > 0 { 1 } else { random.pick(&[1, 1, 1, 2, 3, 4]) })
         .collect();
-    if random.chance(25) {
-        kinds[0] = 0;
+    for &root in roots {
+        if random.chance(25) {
+            kinds[root] = 0;
+        }
     }
     kinds
 }
@@ -94,6 +134,12 @@ fn keys(random: &mut Random, rows: usize) -> Vec<usize> {
         .collect();
     random.shuffle(&mut keys);
     keys
+}
+
+/// A root among the first `count` rows of a sound table.
+pub fn some_root(random: &mut Random, table: &Columns, count: usize) -> usize {
+    let roots: Vec<usize> = (0..count).filter(|&row| table.level[row] == 0).collect();
+    random.pick(&roots)
 }
 
 /// A key for an own purpose: one of the table's, one that spare rows hold, 0, or any other.

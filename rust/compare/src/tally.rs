@@ -68,7 +68,7 @@ impl Tally {
             Part::Step => &[1, 2, 3, 4, 5, 6, 7, 8],
             Part::Edit => &[1, 2, 9, 10, 11, 12, 13, 14, 15, 16],
             Part::Carry => &[1, 3, 4, 5, 8, 17],
-            Part::Farm | Part::Circle | Part::Commute => &[],
+            Part::Farm | Part::Circle | Part::Commute | Part::Trees => &[],
         };
         for &number in refusals {
             at_least(&format!("refusal {number}"), self.refusals(number), LEAST_REFUSALS)?;

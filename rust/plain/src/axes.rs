@@ -1,11 +1,13 @@
 //! The rows of one role on each axis, ascending, and its kept count. The work is that of the
-//! contexts and the results, never of the whole table.
+//! contexts and the results, never of the whole table; the roots of all rows, where axes 6 to 9
+//! end, are found once for all roles.
 
-use crate::check::Up;
+use crate::check::{parent, Up};
 use crate::lanes::Lanes;
 use crate::pairs::Pairs;
 use crate::row_set::RowSet;
 use crate::sink::Sink;
+use crate::trees::Trees;
 use crate::{LEVELS, MOST_ROWS};
 
 /// What the axes are read from.
@@ -32,12 +34,20 @@ impl<'a> Axes<'a> {
             3 => each_role(pairs, sink, |contexts, sink| self.descendants(contexts, 1, sink)),
             4 => each_role(pairs, sink, |contexts, sink| self.descendants(contexts, 0, sink)),
             5 => each_role(pairs, sink, |contexts, sink| self.parents(contexts, sink)),
-            6 => each_role(pairs, sink, |contexts, sink| self.ancestors::<false>(contexts, sink)),
-            7 => each_role(pairs, sink, |contexts, sink| self.ancestors::<true>(contexts, sink)),
-            8 => each_role(pairs, sink, |contexts, sink| self.following(contexts, sink)),
-            9 => each_role(pairs, sink, |contexts, sink| self.preceding(contexts, sink)),
+            6..=9 => self.list_in_trees(axis, pairs, sink),
             10 => each_role(pairs, sink, |contexts, sink| self.following_siblings(contexts, sink)),
             _ => each_role(pairs, sink, |contexts, sink| self.preceding_siblings(contexts, sink)),
+        }
+    }
+
+    /// The same for the axes that go on to the ends of a tree.
+    fn list_in_trees(&self, axis: usize, pairs: &Pairs<'_>, sink: &mut impl Sink) -> usize {
+        let trees = &Trees::new(self.size, self.up);
+        match axis {
+            6 => each_role(pairs, sink, |rows, sink| self.ancestors::<false>(trees, rows, sink)),
+            7 => each_role(pairs, sink, |rows, sink| self.ancestors::<true>(trees, rows, sink)),
+            8 => each_role(pairs, sink, |rows, sink| self.following(trees, rows, sink)),
+            _ => each_role(pairs, sink, |rows, sink| self.preceding(trees, rows, sink)),
         }
     }
 
@@ -72,8 +82,8 @@ impl<'a> Axes<'a> {
     fn parents(&mut self, contexts: &[usize], sink: &mut impl Sink) -> usize {
         let mut kept = 0;
         for context in distinct(contexts) {
-            if context > 0 {
-                self.parents.add(usize::from(self.up[context]));
+            if let Some(parent) = parent(self.up, context) {
+                self.parents.add(parent);
             }
             kept += 1;
         }
@@ -82,15 +92,20 @@ impl<'a> Axes<'a> {
     }
 
     /// An ancestor that the context before doesn't have is greater than that context, so each
-    /// way up ends there.
-    fn ancestors<const OR_SELF: bool>(&self, contexts: &[usize], sink: &mut impl Sink) -> usize {
+    /// way up ends there, or at the root.
+    fn ancestors<const OR_SELF: bool>(
+        &self,
+        trees: &Trees<'_>,
+        contexts: &[usize],
+        sink: &mut impl Sink,
+    ) -> usize {
         let mut path = [0u16; LEVELS];
         let (mut floor, mut end, mut kept) = (0, 0, 0);
         for context in distinct(contexts) {
             // Without a context below it the one before stays.
             kept += usize::from(context >= end);
-            let (mut length, mut row) = (0, context);
-            while row > 0 {
+            let (mut length, mut row, root) = (0, context, trees.root_of(context));
+            while row > root {
                 let parent = self.up[row];
                 row = usize::from(parent);
                 if row < floor {
@@ -109,27 +124,38 @@ impl<'a> Axes<'a> {
         kept
     }
 
-    fn following(&self, contexts: &[usize], sink: &mut impl Sink) -> usize {
-        let ends = contexts.iter().map(|&context| context + self.size[context] + 1);
-        sink.range(ends.min().unwrap_or(self.size.len())..self.size.len());
-        1
+    /// In each tree all rows from where its contexts first end.
+    fn following(&self, trees: &Trees<'_>, contexts: &[usize], sink: &mut impl Sink) -> usize {
+        trees.each(contexts, |contexts, _, end| {
+            let mut first = end;
+            for &context in contexts {
+                // Contexts inside each other end earlier and earlier, any other after them.
+                if context >= first {
+                    break;
+                }
+                first = context + self.size[context] + 1;
+            }
+            if first < end {
+                sink.range(first..end);
+            }
+        })
     }
 
-    /// All rows before the last context, but for the way up from it.
-    fn preceding(&self, contexts: &[usize], sink: &mut impl Sink) -> usize {
+    /// In each tree all rows before its last context, but for the way up from it.
+    fn preceding(&self, trees: &Trees<'_>, contexts: &[usize], sink: &mut impl Sink) -> usize {
         let mut path = [0u16; LEVELS];
-        let mut length = 0;
-        let mut row = contexts[contexts.len() - 1];
-        while row > 0 {
-            path[length % LEVELS] = row as u16;
-            length += 1;
-            row = usize::from(self.up[row]);
-        }
-        for &below in path[..length].iter().rev() {
-            sink.range(row + 1..usize::from(below));
-            row = usize::from(below);
-        }
-        1
+        trees.each(contexts, |contexts, root, _| {
+            let (mut length, mut row) = (0, contexts[contexts.len() - 1]);
+            while row > root {
+                path[length % LEVELS] = row as u16;
+                length += 1;
+                row = usize::from(self.up[row]);
+            }
+            for &below in path[..length].iter().rev() {
+                sink.range(row + 1..usize::from(below));
+                row = usize::from(below);
+            }
+        })
     }
 
     fn following_siblings(&mut self, contexts: &[usize], sink: &mut impl Sink) -> usize {
@@ -137,10 +163,12 @@ impl<'a> Axes<'a> {
         for context in distinct(contexts) {
             kept += 1;
             self.lanes.advance(self.size, context, sink);
+            let Some(parent) = parent(self.up, context) else {
+                continue;
+            };
             let next = context + self.size[context] + 1;
-            let parent = usize::from(self.up[context]);
             // A context after its sibling, which was listed just now, goes on with that lane.
-            if context > 0 && !self.lanes.goes_on_at(next) {
+            if !self.lanes.goes_on_at(next) {
                 self.lanes.open(next, parent + self.size[parent]);
             }
         }
@@ -152,8 +180,7 @@ impl<'a> Axes<'a> {
         let mut kept = 0;
         for context in distinct(contexts) {
             kept += 1;
-            if context > 0 {
-                let parent = usize::from(self.up[context]);
+            if let Some(parent) = parent(self.up, context) {
                 self.parents.add(parent);
                 self.last_below[parent] = context as u16;
             }

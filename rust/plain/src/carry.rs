@@ -60,7 +60,8 @@ impl Shift {
         // Both counts are small, so the move is.
         let moved = moved as isize;
         let removed = moved.min(0).unsigned_abs();
-        (removed < first).then_some(Shift { gone: first - removed, removed, first, moved })
+        let gone = first.checked_sub(removed)?;
+        Some(Shift { gone, removed, first, moved })
     }
 
     /// How many of the rows stay.

@@ -4,8 +4,17 @@ use crate::keys::Keys;
 use crate::table::Rows;
 use crate::{LEVELS, MOST_ROWS};
 
-/// The parent of each row; row 0 has itself.
+/// The parent of each row; a root has none.
 pub(crate) type Up = [u16; MOST_ROWS];
+
+/// Stands for the parent of a root, above all rows.
+pub(crate) const NONE: u16 = u16::MAX;
+
+/// The parent of a row, unless it is a root.
+#[inline(always)]
+pub(crate) fn parent(up: &Up, row: usize) -> Option<usize> {
+    (up[row] != NONE).then_some(usize::from(up[row]))
+}
 
 /// The least unsound row. Where there is none, every key has been entered.
 #[inline(always)]
@@ -50,38 +59,42 @@ fn all_sound<const SLOTS: usize>(
     let count = rows.count();
     let (key, size, level) = (&rows.key[..count], &rows.size[..count], &rows.level[..count]);
     let (kind, name) = (&rows.kind[..count], &rows.name[..count]);
-    if level[0] != 0 || key[0] == 0 || !fits_root(kind[0], name[0], size[0]) {
-        return false;
-    }
-    keys.enter(key, 0);
     let mut row_at = [0u16; LEVELS];
+    // Before row 0 it is as if a tree had ended there.
     let mut end_at = [0usize; LEVELS];
-    end_at[0] = size[0].wrapping_add(1);
     let mut open = 0;
-    for row in 1..count {
+    for row in 0..count {
         let own = level[row];
-        // Level 0 wraps around and is refused with those that are too deep.
+        // Level 0 wraps around: a root comes here with the levels that are too deep.
         if own.wrapping_sub(1) > open || own >= LEVELS {
-            return false;
-        }
-        while open >= own {
-            if end_at[open % LEVELS] != row {
+            let all_end = end_at[..=open].iter().all(|&end| end == row);
+            if own > 0 || !all_end || !fits_root(kind[row], name[row], size[row]) {
                 return false;
             }
-            open -= 1;
+            note_parent(row, NONE);
+        } else {
+            while open >= own {
+                if end_at[open % LEVELS] != row {
+                    return false;
+                }
+                open -= 1;
+            }
+            note_parent(row, row_at[own - 1]);
+            if !fits(kind[row], name[row], size[row]) {
+                return false;
+            }
         }
-        note_parent(row, row_at[own - 1]);
         row_at[own] = row as u16;
         end_at[own] = size[row].wrapping_add(row + 1);
         open = own;
-        if !fits(kind[row], name[row], size[row]) || key[row] == 0 || !keys.enter(key, row) {
+        if key[row] == 0 || !keys.enter(key, row) {
             return false;
         }
     }
     end_at[..=open].iter().all(|&end| end == count)
 }
 
-/// Whether kind, name and size fit each other below row 0.
+/// Whether kind, name and size fit each other below a root.
 #[inline(always)]
 fn fits(kind: usize, name: usize, size: usize) -> bool {
     match kind {
@@ -92,9 +105,10 @@ fn fits(kind: usize, name: usize, size: usize) -> bool {
     }
 }
 
-/// The same at row 0, which may be a document too.
+/// The same at a root, which may be a document too.
+#[inline(always)]
 fn fits_root(kind: usize, name: usize, size: usize) -> bool {
-    (kind == 0 && name == 0) || fits(kind, name, size)
+    fits(kind, name, size) || (kind == 0 && name == 0)
 }
 
 /// The least unsound row of a table that has one. Up to that row the sizes are right, so that
@@ -111,11 +125,11 @@ fn search_unsound<const SLOTS: usize>(rows: &Rows<'_>) -> usize {
 fn is_sound(rows: &Rows<'_>, row: usize) -> bool {
     let (own, size) = (rows.level[row], rows.size[row]);
     let run = rows.level[row + 1..].iter().take_while(|&&level| level > own).count();
-    let (level_fits, kind_fits) = if row == 0 {
-        (own == 0, fits_root(rows.kind[0], rows.name[0], size))
-    } else {
-        let before = rows.level[row - 1];
-        (own < LEVELS && own.wrapping_sub(1) <= before, fits(rows.kind[row], rows.name[row], size))
-    };
-    level_fits && size == run && kind_fits && rows.key[row] != 0
+    let most = if row == 0 { 0 } else { rows.level[row - 1] + 1 };
+    let level_fits = own <= most && own < LEVELS;
+    let kind_fits = if own == 0 { fits_root } else { fits };
+    level_fits
+        && size == run
+        && kind_fits(rows.kind[row], rows.name[row], size)
+        && rows.key[row] != 0
 }

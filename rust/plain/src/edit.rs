@@ -1,7 +1,7 @@
 //! Insertion, deletion and rename in the lent columns.
 
 use crate::answer::Answer;
-use crate::check::{first_unsound, first_unsound_with_parents, Up};
+use crate::check::{first_unsound, first_unsound_with_parents, parent, Up};
 use crate::keys::{by_rows, Keys};
 use crate::table::{Rows, Table};
 use crate::{LEVELS, MOST_ROWS};
@@ -62,7 +62,8 @@ fn insert_by<const SLOTS: usize>(
 fn delete_by<const SLOTS: usize>(table: &mut TableMut<'_>, wanted: usize) -> Answer {
     let (mut keys, mut up) = (Keys::<SLOTS>::new(), [0; MOST_ROWS]);
     match row_of_key(&table.as_lent(), wanted, &mut keys, &mut up) {
-        Ok((_, 0)) => Answer::refused(15, 0),
+        // The only root: with all that is below it, it is the whole table.
+        Ok((rows, row)) if rows.size[row] + 1 == rows.count() => Answer::refused(15, 0),
         Ok((_, row)) => table.close_gap(row, &up),
         Err(refused) => refused,
     }
@@ -112,11 +113,12 @@ fn gap_for<'p, const SLOTS: usize>(
     Ok((parent, piece))
 }
 
-/// The rows of the piece, where it is sound and doesn't start with a document.
+/// The rows of the piece, where it is sound, one tree, and doesn't start with a document.
 fn sound_piece<'p>(piece: &Table<'p>) -> Option<Rows<'p>> {
     let rows = piece.rows_in_use()?;
     let unsound = by_rows!(rows.count(), first_unsound_alone(&rows));
-    (unsound.is_none() && rows.kind[0] != 0).then_some(rows)
+    let one_tree = rows.size[0].wrapping_add(1) == rows.count();
+    (unsound.is_none() && one_tree && rows.kind[0] != 0).then_some(rows)
 }
 
 fn first_unsound_alone<const SLOTS: usize>(rows: &Rows<'_>) -> Option<usize> {
@@ -173,8 +175,8 @@ impl TableMut<'_> {
 }
 
 fn for_each_ancestor(mut row: usize, up: &Up, mut visit: impl FnMut(usize)) {
-    while row > 0 {
-        row = usize::from(up[row]);
-        visit(row);
+    while let Some(parent) = parent(up, row) {
+        visit(parent);
+        row = parent;
     }
 }

@@ -19,6 +19,7 @@ mod row_set;
 mod sink;
 mod step;
 mod table;
+mod trees;
 
 pub use answer::Answer;
 pub use carry::carry;

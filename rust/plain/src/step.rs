@@ -2,7 +2,7 @@
 
 use crate::answer::Answer;
 use crate::axes::Axes;
-use crate::check::{first_unsound_with_parents, Up};
+use crate::check::{first_unsound_with_parents, parent, Up};
 use crate::filter::{Any, Filter, Named, OfKind, Test};
 use crate::keys::{by_rows, Keys};
 use crate::pairs::Pairs;
@@ -102,7 +102,7 @@ impl Walk<'_> {
             2..=4 => contexts.map(|&context| below(context)).sum(),
             6 | 7 => contexts.len() * LEVELS,
             8 | 9 => self.roles * self.rows.count(),
-            _ => contexts.map(|&context| below(usize::from(self.up[context]))).sum(),
+            _ => contexts.filter_map(|&context| parent(self.up, context)).map(below).sum(),
         }
     }
 }

@@ -51,7 +51,7 @@ fn new_list(pairs: &Pairs<'_>, edit: &Edit, room: usize) -> Result<Vec<(usize, u
 }
 
 impl Edit {
-    /// The first moved row is neither 0 nor above the old count, does not fall below 1 once the
+    /// The first moved row is neither 0 nor above the old count, does not fall below 0 once the
     /// move is added, and the new count lies within 1 to 4,096. With so many bits no sum is too
     /// large.
     fn is_possible(&self) -> bool {
@@ -59,7 +59,7 @@ impl Edit {
         let moved = i128::from(self.moved);
         first != 0
             && first <= old_count
-            && first + moved >= 1
+            && first + moved >= 0
             && (1..=MOST_ROWS as i128).contains(&(old_count + moved))
     }
 

@@ -1,9 +1,9 @@
-//! Edits: the rows become a tree, the tree is changed, and the tree becomes rows again.
+//! Edits: the rows become trees, one of the trees is changed, and the trees become rows again.
 
 use crate::answer::{Answer, Refused};
+use crate::forest::{Forest, Line};
 use crate::sound::DEEPEST;
 use crate::table::{Rows, Table};
-use crate::tree::{Line, Tree};
 use crate::{row_of_key, sound_rows, MOST_ROWS};
 
 /// Five columns that are lent to be changed, and the count of rows in use.
@@ -41,7 +41,7 @@ pub fn rename(table: &mut TableMut<'_>, wanted: usize, new_name: usize) -> Answe
     table.finish(changed)
 }
 
-fn inserted(table: &Table<'_>, parent: usize, piece: &Table<'_>) -> Result<Tree, Refused> {
+fn inserted(table: &Table<'_>, parent: usize, piece: &Table<'_>) -> Result<Forest, Refused> {
     let rows = sound_rows(table)?;
     let parent = row_of_key(&rows, parent)?;
     let piece = good_piece(piece)?;
@@ -58,40 +58,41 @@ fn inserted(table: &Table<'_>, parent: usize, piece: &Table<'_>) -> Result<Tree,
     if new_count > MOST_ROWS || new_count > table.shortest_column() {
         return Err(Refused { number: 14, place: 0 });
     }
-    let mut tree = Tree::of(&rows);
-    tree.insert_as_last(parent, Tree::of(&piece));
-    Ok(tree)
+    let mut forest = Forest::of(&rows);
+    forest.insert_as_last(parent, Forest::of(&piece));
+    Ok(forest)
 }
 
-/// The rows of the piece, unless it would get refusal 1 or 2 or starts with a document.
+/// The rows of the piece, unless it would get refusal 1 or 2, starts with a document, or is more
+/// than one tree.
 fn good_piece<'a>(piece: &Table<'a>) -> Result<Rows<'a>, Refused> {
     match sound_rows(piece) {
-        Ok(rows) if rows.kind[0] != 0 => Ok(rows),
+        Ok(rows) if rows.kind[0] != 0 && Forest::of(&rows).roots().len() == 1 => Ok(rows),
         _ => Err(Refused { number: 10, place: 0 }),
     }
 }
 
-fn deleted(table: &Table<'_>, wanted: usize) -> Result<Tree, Refused> {
+fn deleted(table: &Table<'_>, wanted: usize) -> Result<Forest, Refused> {
     let rows = sound_rows(table)?;
     let row = row_of_key(&rows, wanted)?;
-    if row == 0 {
+    let mut forest = Forest::of(&rows);
+    if forest.roots() == [row] {
         return Err(Refused { number: 15, place: 0 });
     }
-    let mut tree = Tree::of(&rows);
-    tree.delete(row);
-    Ok(tree)
+    forest.delete(row);
+    Ok(forest)
 }
 
-fn renamed(table: &Table<'_>, wanted: usize, new_name: usize) -> Result<Tree, Refused> {
+fn renamed(table: &Table<'_>, wanted: usize, new_name: usize) -> Result<Forest, Refused> {
     let rows = sound_rows(table)?;
     let row = row_of_key(&rows, wanted)?;
     let has_name = rows.kind[row] == 1 || rows.kind[row] == 4;
     if !has_name || new_name == 0 {
         return Err(Refused { number: 16, place: row });
     }
-    let mut tree = Tree::of(&rows);
-    tree.rename(row, new_name);
-    Ok(tree)
+    let mut forest = Forest::of(&rows);
+    forest.rename(row, new_name);
+    Ok(forest)
 }
 
 impl TableMut<'_> {
@@ -106,10 +107,10 @@ impl TableMut<'_> {
         }
     }
 
-    /// Writes the changed tree, or nothing on a refusal, and answers.
-    fn finish(&mut self, changed: Result<Tree, Refused>) -> Answer {
+    /// Writes the changed trees, or nothing on a refusal, and answers.
+    fn finish(&mut self, changed: Result<Forest, Refused>) -> Answer {
         match changed {
-            Ok(tree) => self.write(&tree.lines()),
+            Ok(forest) => self.write(&forest.lines()),
             Err(refused) => refused.answer(),
         }
     }

@@ -2,7 +2,7 @@
 //! words of its rules.
 //!
 //! It takes every row against every row, follows parent links that it finds by searching back,
-//! edits a tree of linked nodes, and carries pairs by looking their rows up in a list of all rows.
+//! edits trees of linked nodes, and carries pairs by looking their rows up in a list of all rows.
 //! It shares no method with the library it is compared with, and prefers what can be read at once
 //! to what is fast.
 
@@ -11,12 +11,12 @@
 mod answer;
 mod carry;
 mod edit;
+mod forest;
 mod links;
 mod pairs;
 mod sound;
 mod step;
 mod table;
-mod tree;
 
 pub use answer::Answer;
 pub use carry::carry;

@@ -1,9 +1,9 @@
-//! Parents and ancestors, by following links from row to row.
+//! Parents, ancestors and roots, by following links from row to row.
 
 use crate::table::Rows;
 
 /// The parent of each row of a sound table: the nearest earlier row whose level is one less.
-/// Row 0 has none.
+/// A root has none.
 pub(crate) fn parents(rows: &Rows<'_>) -> Vec<Option<usize>> {
     rows.numbers().map(|row| parent(rows, row)).collect()
 }
@@ -12,11 +12,13 @@ fn parent(rows: &Rows<'_>, row: usize) -> Option<usize> {
     (0..row).rev().find(|&earlier| rows.level[earlier] + 1 == rows.level[row])
 }
 
-/// Who is whose parent and ancestor.
+/// Who is whose parent and ancestor, and who stands in one tree.
 pub(crate) struct Links {
     pub parent: Vec<Option<usize>>,
     /// For each row, and each other row in turn, whether the other is an ancestor of it.
     ancestor: Vec<bool>,
+    /// The root of the tree of each row.
+    root: Vec<usize>,
 }
 
 impl Links {
@@ -24,14 +26,16 @@ impl Links {
         let count = rows.count();
         let parent = parents(rows);
         let mut ancestor = vec![false; count * count];
+        let mut root: Vec<usize> = rows.numbers().collect();
         for row in rows.numbers() {
             let mut up = parent[row];
             while let Some(reached) = up {
                 ancestor[row * count + reached] = true;
+                root[row] = reached;
                 up = parent[reached];
             }
         }
-        Links { parent, ancestor }
+        Links { parent, ancestor, root }
     }
 
     /// Whether `upper` is an ancestor of `row`.
@@ -39,7 +43,12 @@ impl Links {
         self.ancestor[row * self.parent.len() + upper]
     }
 
-    /// Whether the two rows have the same parent. Row 0 has no siblings.
+    /// Whether the two rows stand in one tree.
+    pub fn are_in_one_tree(&self, one: usize, other: usize) -> bool {
+        self.root[one] == self.root[other]
+    }
+
+    /// Whether the two rows have the same parent. Roots are nobody's siblings.
     pub fn are_siblings(&self, one: usize, other: usize) -> bool {
         self.parent[one].is_some() && self.parent[one] == self.parent[other]
     }

@@ -18,8 +18,8 @@ fn is_sound(rows: &Rows<'_>, row: usize) -> bool {
         && key_holds(rows, row)
 }
 
-/// Row 0 has level 0. Any later row has a level from 1 to one more than the level of the row
-/// before it. No level is above 63.
+/// Row 0 has level 0. Any later row has a level from 0 to one more than the level of the row
+/// before it; with level 0 it starts a new tree. No level is above 63.
 fn level_holds(rows: &Rows<'_>, row: usize) -> bool {
     let level = rows.level[row];
     if level > DEEPEST {
@@ -29,7 +29,7 @@ fn level_holds(rows: &Rows<'_>, row: usize) -> bool {
         return level == 0;
     }
     // Written with a difference, since the level before may be the largest number there is.
-    level >= 1 && level - 1 <= rows.level[row - 1]
+    level == 0 || level - 1 <= rows.level[row - 1]
 }
 
 /// The size is the number of rows directly after the row, without a break, whose level is
@@ -40,10 +40,10 @@ fn size_holds(rows: &Rows<'_>, row: usize) -> bool {
     rows.size[row] == after.iter().take_while(|&&level| level > own).count()
 }
 
-/// The kind is 0 to 4. Kind 0 only at row 0. Kinds 2, 3 and 4 have size 0.
+/// The kind is 0 to 4. Kind 0 only where a tree starts. Kinds 2, 3 and 4 have size 0.
 fn kind_holds(rows: &Rows<'_>, row: usize) -> bool {
     match rows.kind[row] {
-        0 => row == 0,
+        0 => rows.level[row] == 0,
         1 => true,
         2..=4 => rows.size[row] == 0,
         _ => false,

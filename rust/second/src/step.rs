@@ -66,11 +66,12 @@ fn good_question(question: Question) -> Result<(), Refused> {
     }
 }
 
-/// Whether `row` is on the axis of the context.
+/// Whether `row` is on the axis of the context. No axis leaves the tree of the context.
 fn is_on_axis(links: &Links, axis: usize, context: usize, row: usize) -> bool {
     let is_self = || row == context;
     let is_descendant = || links.is_ancestor(context, row);
     let is_ancestor = || links.is_ancestor(row, context);
+    let is_in_tree = || links.are_in_one_tree(context, row);
     match axis {
         1 => is_self(),
         2 => links.parent[row] == Some(context),
@@ -79,8 +80,8 @@ fn is_on_axis(links: &Links, axis: usize, context: usize, row: usize) -> bool {
         5 => links.parent[context] == Some(row),
         6 => is_ancestor(),
         7 => is_self() || is_ancestor(),
-        8 => row > context && !is_descendant(),
-        9 => row < context && !is_ancestor(),
+        8 => row > context && !is_descendant() && is_in_tree(),
+        9 => row < context && !is_ancestor() && is_in_tree(),
         10 => links.are_siblings(context, row) && row > context,
         11 => links.are_siblings(context, row) && row < context,
         _ => unreachable!("other axes are refused"),
@@ -141,17 +142,16 @@ fn kept_count(links: &Links, pairs: &[(usize, usize)], axis: usize) -> usize {
     of_roles.map(|of_role| kept_of_role(links, of_role, axis)).sum()
 }
 
-/// The same for the pairs of one role.
+/// The same for the pairs of one role. Of the pairs in one tree axes 8 and 9 leave one, here the
+/// first.
 fn kept_of_role(links: &Links, of_role: &[(usize, usize)], axis: usize) -> usize {
     let is_redundant = |row: usize| {
         of_role.iter().any(|&(_, other)| match axis {
             3 | 4 => links.is_ancestor(other, row),
             6 | 7 => links.is_ancestor(row, other),
+            8 | 9 => other < row && links.are_in_one_tree(other, row),
             _ => false,
         })
     };
-    match axis {
-        8 | 9 => 1,
-        _ => of_role.iter().filter(|&&(_, row)| !is_redundant(row)).count(),
-    }
+    of_role.iter().filter(|&&(_, row)| !is_redundant(row)).count()
 }

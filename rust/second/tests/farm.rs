@@ -106,13 +106,14 @@ fn grants_move_with_their_rows() {
 
 #[test]
 fn a_move_that_no_edit_makes_is_told_from_one_that_cannot_be() {
-    for (first, moved) in [(0, 0), (11, 0), (usize::MAX, 0), (2, -2), (10, -10), (10, 4_087)] {
+    for (first, moved) in [(0, 0), (11, 0), (usize::MAX, 0), (2, -3), (10, -10), (10, 4_087)] {
         assert_eq!(carried(&GRANTS, [10, first], moved, 0).0, refused(17, 0));
     }
     for moved in [i64::MIN, i64::MAX] {
         assert_eq!(carried(&[], [4_096, 4_096], moved, 0).0, refused(17, 0));
     }
     assert_eq!(new_list(&GRANTS, [10, 3], -2), [(7, 4)]);
+    assert_eq!(new_list(&GRANTS, [10, 2], -2), [(5, 0), (7, 4)]);
     assert_eq!(new_list(&GRANTS, [10, 10], -9), []);
     assert_eq!(new_list(&GRANTS, [10, 2], 4_086), [(5, 1), (5, 4_088), (7, 4_092)]);
     assert_eq!(new_list(&GRANTS, [10, 3], 0), GRANTS);

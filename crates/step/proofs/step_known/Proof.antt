@@ -2,15 +2,16 @@
 use mathlib.Core.Path.{sym, _∙_}
 use Rattle.tree.specs.Refusal.{roomCheck}
 use Rattle.tree.proofs.SoundLaws.{sound-shape}
+use Rattle.axis.proofs.RootedLaws.{up-zeros}
 use Rattle.step.proofs.LeavesLaws.{leaves-full, room-fits, leaves-listed}
 use borrow.Author.Needs.{needs}
 use Rattle.step.proofs.step_known.Statement.{statement}
 use Rattle.step.proofs.step_known.Tie as tie
 
-parents-for-requires : tie.Need-parents-for-requires
-parents-for-requires c κs =
+up-for-requires : tie.Need-up-for-requires
+up-for-requires c κs =
     let start = c .before .before .before .before .before .before .before .before .before .before in
-    sound-shape _ (start .pre .sound)
+    (sound-shape _ (start .pre .sound), up-zeros)
 
 smaller-requires : tie.Need-smaller-requires
 smaller-requires c κs = search needs
@@ -19,7 +20,7 @@ check-room-requires : tie.Need-check-room-requires
 check-room-requires c κs =
     let found = c .before .before in
     let known = found .before .before .before .before .before .before .before .before .before .before .before .pre in
-    record { sound = known .sound; pairs = known .pairs; asked = known .asked; parents = found .parents-for .ensures }
+    record { sound = known .sound; pairs = known .pairs; asked = known .asked; links = found .up-for .ensures }
 
 enum-known-fitting : tie.Need-enum-known-fitting
 enum-known-fitting c = search needs
@@ -38,7 +39,7 @@ write-all-requires c κs =
         sound = known .sound;
         pairs = known .pairs;
         asked = known .asked;
-        parents = found .parents-for .ensures;
+        links = found .up-for .ensures;
       },
       room-fits _ _ _ _ _ _ (sym room ∙ told .enum-told .given .1),
     )
@@ -73,7 +74,7 @@ pub step-known-spec : {M : Type 1} → statement M
 step-known-spec =
     tie.close
     (tie.spec
-    parents-for-requires
+    up-for-requires
     smaller-requires
     check-room-requires
     enum-known-fitting

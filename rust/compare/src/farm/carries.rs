@@ -16,7 +16,7 @@ struct Stated {
 /// What the roles hold: one on a row that M9 deletes, one on the row that M10 moves.
 const PAIRS: [(usize, usize); 4] = [(5, 1), (5, 2), (7, 6), (7, 9)];
 
-const STATED: [Stated; 11] = [
+const STATED: [Stated; 12] = [
     Stated {
         name: "carry over M9",
         pairs: &[(5, 1), (5, 2), (7, 6)],
@@ -54,6 +54,13 @@ const STATED: [Stated; 11] = [
         first: 3,
         moved: -2,
         new_list: &[(7, 4), (7, 7)],
+    },
+    Stated {
+        name: "the first moved row comes to row 0",
+        pairs: &PAIRS,
+        first: 2,
+        moved: -2,
+        new_list: &[(5, 0), (7, 4), (7, 7)],
     },
     Stated {
         name: "row 0 alone is left",
@@ -95,7 +102,7 @@ fn bad_moves(judge: &mut Judge<'_>) -> Result<(), Difference> {
         ("first moved row 0", 0, 0),
         ("first moved row above the old count", 11, 0),
         ("the largest first moved row", usize::MAX, 2),
-        ("the first moved row comes to row 0", 2, -2),
+        ("the first moved row falls below row 0", 2, -3),
         ("all rows deleted", 10, -10),
         ("to 4,097 rows", 10, 4_087),
         ("the least move", 10, i64::MIN),

@@ -6,7 +6,7 @@ use crate::judge::{Difference, Judge};
 use crate::tables::chain;
 
 /// What the one spare row holds.
-const SPARE: usize = 77;
+pub const SPARE: usize = 77;
 
 /// The farm with columns of 11 rows.
 fn farm_with_room() -> Columns {
@@ -16,7 +16,7 @@ fn farm_with_room() -> Columns {
 }
 
 /// Key 50, size 0, level 0, kind 1, name 4.
-fn setpoint() -> Columns {
+pub fn setpoint() -> Columns {
     Columns { key: vec![50], size: vec![0], level: vec![0], kind: vec![1], name: vec![4] }
 }
 
@@ -28,12 +28,12 @@ fn m10() -> Call {
     insert(31, setpoint())
 }
 
-fn insert(parent: usize, piece: Columns) -> Call {
+pub fn insert(parent: usize, piece: Columns) -> Call {
     let piece_count = piece.key.len();
     Call::Insert(Insert { parent, piece, piece_count })
 }
 
-fn accepted(count: usize, first_moved: usize, moved: i64) -> Answer {
+pub fn accepted(count: usize, first_moved: usize, moved: i64) -> Answer {
     Answer { first: count, second: first_moved, moved, ..Answer::default() }
 }
 
@@ -139,7 +139,7 @@ fn refusals(judge: &mut Judge<'_>) -> Result<(), Difference> {
             Answer::refused(13, 1),
         ),
         ("no room", insert(31, long), Answer::refused(14, 0)),
-        ("delete row 0", Call::Delete { wanted: 10 }, Answer::refused(15, 0)),
+        ("delete the only root", Call::Delete { wanted: 10 }, Answer::refused(15, 0)),
         ("rename a comment", rename(40, 5), Answer::refused(16, 9)),
         ("rename to 0", rename(31, 0), Answer::refused(16, 7)),
     ];

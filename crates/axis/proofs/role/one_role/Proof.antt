@@ -18,7 +18,10 @@ is-ranged-requires c κs = search needs
 ranged-requires : tie.Need-ranged-requires
 ranged-requires c κs = (
   sym (c .before .before .is-ranged .ensures) ∙ c .before .if1 .taken,
-  c .before .before .before .before .before .before .before .before .before .pre .asks,
+  (
+    c .before .before .before .before .before .before .before .before .before .pre .asks,
+    c .before .before .before .before .before .before .before .before .before .pre .links .roots,
+  ),
 )
 
 same-length : tie.Need-same-length
@@ -34,7 +37,7 @@ lone-rows-requires : tie.Need-lone-rows-requires
 lone-rows-requires c κs =
     let pre = start (c .before .before .before) .pre in
     let lone = sym (c .before .before .is-lone .ensures) ∙ c .before .if2 .taken in
-    record { lone = lone; asks = pre .asks; parents = pre .parents (lone-climbs _ _ _ _ lone) }
+    record { lone = lone; asks = pre .asks; parents = pre .links .parents (lone-climbs _ _ _ _ lone) }
 
 same-length-2 : tie.Need-same-length-2
 same-length-2 c = search needs
@@ -52,7 +55,7 @@ marked-requires c κs =
     let other = c .before .before .before in
     let pre = start other .pre in (
       marked-rest _ (pre .known) (sym (other .before .is-ranged .ensures) ∙ other .if1 .left),
-      (record { shape = pre .asks .shape; contexts = pre .asks .contexts; blank = pre .blank }, pre .parents),
+      (record { shape = pre .asks .shape; contexts = pre .asks .contexts; blank = pre .blank }, pre .links .parents),
     )
 
 drain-requires : tie.Need-drain-requires

@@ -71,7 +71,7 @@ returns-4 c =
     let new = sum-is (start .args .old-count) (start .args .moved) (start .pre) near in
     c .both3 .ensures
     ∙ ap₂ (λ (a b : Bool). a && b)
-    (c .before .before .both .ensures ∙ ap (λ (z : ℤ). leb 1 (start .args .first) && leZ (pos 1) z) to)
+    (c .before .before .both .ensures ∙ ap (λ (z : ℤ). leb 1 (start .args .first) && leZ (pos 0) z) to)
     (c .before .both2 .ensures ∙ ap (λ (z : ℤ). leZ (pos 1) z && leZ z (pos 4096)) new)
     ∙ same-tests _ _ _ below
 

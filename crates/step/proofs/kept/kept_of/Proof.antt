@@ -5,7 +5,7 @@ use mathlib.Core.Logic.{inl, inr, ⊎-elim}
 use native.Mathlib.Omega.{arith}
 use borrow.Author.Needs.{needs}
 use Rattle.step.proofs.KeptOfLaws.{kept-none, kept-descend, kept-ascend, kept-aside, kept-plain}
-use Rattle.step.proofs.KeptPassLaws.{one-kept}
+use Rattle.step.proofs.KeptTreeLaws.{side-range}
 use Rattle.step.proofs.kept.kept_of.Statement.{statement}
 use Rattle.step.proofs.kept.kept_of.Tie as tie
 
@@ -18,6 +18,13 @@ kept-outermost-requires c κs = search needs
 kept-innermost-requires : tie.Need-kept-innermost-requires
 kept-innermost-requires c κs = search needs
 
+kept-trees-requires : tie.Need-kept-trees-requires
+kept-trees-requires c κs =
+    let h = c .before .before .before .before .before .before .before .before .before .before in (
+      (h .pre .0, omega arith),
+      h .pre .1 (side-range _ (c .before .before .if5 .left) (c .before .if6 .taken)),
+    )
+
 kept-distinct-requires : tie.Need-kept-distinct-requires
 kept-distinct-requires c κs = search needs
 
@@ -29,8 +36,7 @@ returns-3 c = c .kept-innermost .ensures ∙ kept-ascend _ _ (c .before .before 
 
 returns-4 : tie.Need-returns-4
 returns-4 c =
-    let h = c .before .before .before .before .before .before .before .before .before in
-    one-kept (h .pre) (omega arith) ∙ kept-aside _ _ (c .before .if5 .left) (c .if6 .taken)
+    c .kept-trees .ensures ∙ kept-aside _ _ (c .before .before .before .if5 .left) (c .before .before .if6 .taken)
 
 returns-5 : tie.Need-returns-5
 returns-5 c = c .kept-distinct .ensures ∙ kept-plain _ _ (⊎-elim
@@ -45,6 +51,7 @@ kept-of-spec =
     returns
     kept-outermost-requires
     kept-innermost-requires
+    kept-trees-requires
     kept-distinct-requires
     returns-2
     returns-3

@@ -13,7 +13,7 @@ use Rattle.step.proofs.most.surely_fits.Tie as tie
 axis-fits-requires : tie.Need-axis-fits-requires
 axis-fits-requires c κs =
     let start = c .before .before .before .before .before .before .before in
-    (rows-few _ _ _ _ _ (start .pre), start .pre .parents)
+    (rows-few _ _ _ _ _ (start .pre), start .pre .links .parents)
 
 returns : tie.Need-returns
 returns c = λ e.

@@ -60,9 +60,11 @@ kept-of-requires : tie.Need-kept-of-requires Inv-loop μ-loop
 kept-of-requires c κs =
     let turn = c .before in
     let head = turn .before .before in
-    let start = head .before .before .before .before .before .before .before .before .before .before .before in
-    keeping-asks (start .args .axis) _ _ _ _ _ (sound-shape _ (start .pre .0 .sound))
-    (pairs-fit _ _ _ _ _ (start .pre .0)) _ _ (turn .run-end .ensures)
+    let start = head .before .before .before .before .before .before .before .before .before .before .before in (
+      keeping-asks (start .args .axis) _ _ _ _ _ (sound-shape _ (start .pre .0 .sound))
+          (pairs-fit _ _ _ _ _ (start .pre .0)) _ _ (turn .run-end .ensures),
+      start .pre .0 .links .roots,
+    )
 
 add-kept : tie.Need-add-kept Inv-loop μ-loop
 add-kept c =

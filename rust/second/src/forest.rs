@@ -1,10 +1,10 @@
-//! A tree of linked nodes, which an edit changes as XQuery Update describes it.
+//! Trees of linked nodes, which an edit changes as XQuery Update describes it.
 
 use crate::links::parents;
 use crate::table::Rows;
 
 /// A node with its parent and its children in their order, which are named by their places in
-/// the tree's list of nodes.
+/// the list of all nodes.
 struct Node {
     key: usize,
     kind: usize,
@@ -15,12 +15,13 @@ struct Node {
 
 /// Linked nodes. A node that an edit adds comes after those that were there, so the nodes of
 /// the table it was made from stay at the places of their rows.
-pub(crate) struct Tree {
+pub(crate) struct Forest {
     nodes: Vec<Node>,
-    root: usize,
+    /// The nodes without a parent, one for each tree, in their order.
+    roots: Vec<usize>,
 }
 
-/// A node as a row of a table again, and where it stood in the tree's list of nodes.
+/// A node as a row of a table again, and where it stood in the list of all nodes.
 pub(crate) struct Line {
     pub node: usize,
     pub key: usize,
@@ -30,9 +31,9 @@ pub(crate) struct Line {
     pub name: usize,
 }
 
-impl Tree {
+impl Forest {
     /// Links the rows of a sound table.
-    pub fn of(rows: &Rows<'_>) -> Tree {
+    pub fn of(rows: &Rows<'_>) -> Forest {
         let node = |row: usize, parent: Option<usize>| Node {
             key: rows.key[row],
             kind: rows.kind[row],
@@ -42,30 +43,39 @@ impl Tree {
         };
         let parents = parents(rows).into_iter().enumerate();
         let mut nodes: Vec<Node> = parents.map(|(row, parent)| node(row, parent)).collect();
-        for child in rows.numbers() {
-            if let Some(parent) = nodes[child].parent {
-                nodes[parent].children.push(child);
+        let mut roots = Vec::new();
+        for row in rows.numbers() {
+            match nodes[row].parent {
+                Some(parent) => nodes[parent].children.push(row),
+                None => roots.push(row),
             }
         }
-        Tree { nodes, root: 0 }
+        Forest { nodes, roots }
     }
 
-    /// "insert node PIECE as last into TARGET": the piece becomes the last child.
-    pub fn insert_as_last(&mut self, target: usize, piece: Tree) {
+    pub fn roots(&self) -> &[usize] {
+        &self.roots
+    }
+
+    /// "insert node PIECE as last into TARGET": the piece's root becomes the last child.
+    pub fn insert_as_last(&mut self, target: usize, piece: Forest) {
         let start = self.nodes.len();
         for mut node in piece.nodes {
             node.parent = Some(node.parent.map_or(target, |parent| start + parent));
             node.children.iter_mut().for_each(|child| *child += start);
             self.nodes.push(node);
         }
-        self.nodes[target].children.push(start + piece.root);
+        self.nodes[target].children.extend(piece.roots.iter().map(|root| start + root));
     }
 
-    /// "delete node TARGET": it is parted from its parent, and what is below it goes with it.
+    /// "delete node TARGET": it is parted from its parent, or leaves the list of roots, and what is
+    /// below it goes with it.
     pub fn delete(&mut self, target: usize) {
-        if let Some(parent) = self.nodes[target].parent.take() {
-            self.nodes[parent].children.retain(|&child| child != target);
-        }
+        let beside = match self.nodes[target].parent {
+            Some(parent) => &mut self.nodes[parent].children,
+            None => &mut self.roots,
+        };
+        beside.retain(|&node| node != target);
     }
 
     /// "rename node TARGET as NAME".
@@ -73,10 +83,12 @@ impl Tree {
         self.nodes[target].name = name;
     }
 
-    /// The nodes that can be reached from the root, in document order.
+    /// The nodes that can be reached from a root, in document order.
     pub fn lines(&self) -> Vec<Line> {
         let mut lines = Vec::new();
-        self.add_lines(self.root, 0, &mut lines);
+        for &root in &self.roots {
+            self.add_lines(root, 0, &mut lines);
+        }
         lines
     }
 
