@@ -1,25 +1,32 @@
--- The ancestors of a row in rows whose levels and sizes make a tree: `ancestor-before`, `ancestor-trans`,
--- `ancestor-path`, `path-before`. The walk that puts them into a set, from parent to parent: `climb-start`,
--- `climb-next`, `climb-less`, and its two ends, `climb-done` past the root and `climb-met` at a row that is in
--- already. Assumes nothing.
-use Prim.Native.Nat.{ℕ, zero, suc, _<_, _≤_}
-use mathlib.Core.Path.{_≡_, refl, sym, ap, subst, _∙_}
+-- The ancestors of a row in rows whose levels and sizes make trees: `parent-low`, `ancestor-path`. The rows on a path:
+-- `path-before`, `path-own`, `path-above`. Those of them that are new: `way-..`. The walk that appends these, parent by
+-- parent: `climb-start`, `climb-yes` and `climb-no` for a row, `climb-less`, `climb-done`; what a turn asks for,
+-- `climb-place` and `climb-length`; and where it ends, `climb-end`. Assumes nothing.
+use Prim.Native.Nat.{ℕ, zero, suc, _+_, _<_, _≤_}
+use mathlib.Core.Path.{_≡_, refl, sym, ap, ap₂, subst, _∙_}
 use mathlib.Core.Logic.{⊎-elim}
-use mathlib.Core.Bool.{Bool, true, _&&_, _||_, false≢true}
-use mathlib.Core.List.{List}
+use mathlib.Core.Bool.{Bool, true, false, _&&_, _||_, false≢true}
+use mathlib.Core.List.{List, [], _∷_, _++_, append-nil, reverse, reverse-append}
 use native.Mathlib.Nat.{le-refl, eq-or-lt-of-le}
 use native.Mathlib.Omega.{arith}
-use borrow.Author.Tests.{eqb-true, eq-eqb, ne-eqb, leb-true, le-leb}
-use lib.Dec.{eqb, leb}
+use borrow.Author.Tests.{eqb-true, eq-eqb, ne-eqb}
+use lib.Dec.{eqb}
+use lib.ListN.{length, set, length-append, length-reverse}
+use lib.Seq.{append-snoc}
+use Rattle.tree.specs.Search.{only}
 use Rattle.tree.specs.Table.{at}
 use Rattle.tree.specs.Tree.{parent, ancestor}
 use Rattle.tree.specs.Rules.{Shape}
+use Rattle.tree.proofs.SearchLaws.{only-none, only-one}
 use Rattle.tree.proofs.TreeLaws.{Under, less?, parent-below, from-parent, under-parent, ancestor-under}
-use Rattle.tree.proofs.SoundLaws.{shape-steps, both, both-of, either, either-left, either-right}
-use Rattle.tree.proofs.AxisLaws.{same-test}
-use Rattle.axis.specs.RowSet.{has, Added}
-use Rattle.axis.specs.Mark.{onPath, Joined, Climbs}
-use Rattle.axis.proofs.MarkLaws.{joined-none, joined-as, joined-add}
+use Rattle.tree.proofs.SoundLaws.{shape-steps, either, either-left, either-right}
+use Rattle.tree.proofs.AxisLaws.{same-test, false-of}
+use Rattle.span.specs.Want.{fits}
+use Rattle.span.specs.Range.{rowsIn, Appended}
+use Rattle.span.proofs.ScanLaws.{rows-same, rows-cut, rows-last, rows-empty}
+use Rattle.span.proofs.AppendedLaws.{appended-as, appended-none, appended-more, appended-length}
+use Rattle.axis.specs.Path.{onPath}
+use Rattle.axis.specs.Above.{wayUp, WayIn}
 
 -- a parent is an earlier row
 pub parent-low : (level : List ℕ) (v : ℕ) → parent level v ≤ v
@@ -47,11 +54,11 @@ module _ {size level : List ℕ} {n : ℕ} (s : Shape size level n) where
   of-under a c l = ancestor-under level n (shape-steps s) a c l .1
 
   -- an ancestor is an earlier row
-  pub ancestor-before : (a c : ℕ) → c < n → ancestor level a c ≡ true → a < c
+  ancestor-before : (a c : ℕ) → c < n → ancestor level a c ≡ true → a < c
   ancestor-before a c l x = under a c l x .after
 
   -- an ancestor's ancestor is an ancestor
-  pub ancestor-trans : (a b c : ℕ) → c < n → ancestor level a b ≡ true → ancestor level b c ≡ true
+  ancestor-trans : (a b c : ℕ) → c < n → ancestor level a b ≡ true → ancestor level b c ≡ true
       → ancestor level a c ≡ true
   ancestor-trans a b c l x y =
       let v : Under level b c = under b c l y in
@@ -98,39 +105,98 @@ module _ {size level : List ℕ} {n : ℕ} (s : Shape size level n) where
       (λ z. omega (arith, ancestor-before w v (omega arith) z))
       (either (eqb w v) (ancestor level w v) t)
 
+  module _ (v : ℕ) (l : v < n) where
+    -- a row is on its own path
+    pub path-own : onPath level (suc v) v ≡ true
+    unfolding onPath
+    path-own = either-left (ancestor level v v) (eq-eqb v v refl)
+
+    -- an earlier row is on the path exactly if it is on the parent's
+    pub path-above : (w : ℕ) → w < v → onPath level (suc v) w ≡ onPath level (parent level v) w
+    unfolding onPath
+    path-above w m =
+        ap (λ (b : Bool). b || ancestor level w v) (ne-eqb w v (λ (e : w ≡ v). omega arith))
+        ∙ ancestor-path v w l
+
+-- ── the new rows of the way up ──
+-- none is left
+way-none : (level : List ℕ) (floor start : ℕ) (f : ℕ → Bool) → start ≤ floor → wayUp level floor start f ≡ []
+unfolding wayUp
+way-none level floor start f l = rows-empty (λ w. onPath level start w && f w) floor start l
+
+module _ {size level : List ℕ} {n : ℕ} (s : Shape size level n) (floor : ℕ) (f : ℕ → Bool) where
+  -- the same rows, asked for up to a later row
+  pub way-rows : (start to : ℕ) → start ≤ n → start ≤ to
+      → rowsIn (λ w. onPath level start w && f w) floor to ≡ wayUp level floor start f
+  unfolding wayUp
+  way-rows start to l m = rows-cut (λ w. onPath level start w && f w) floor start to m (λ w a b.
+      ap (λ (t : Bool). t && f w)
+      (false-of (onPath level start w) (λ t. omega (arith, path-before s start w l t))))
+
+  -- those of a row are those of its parent, and the row itself
+  way-snoc : (v : ℕ) → v < n → floor ≤ v
+      → wayUp level floor (suc v) f ≡ wayUp level floor (parent level v) f ++ only (f v) v
+  unfolding wayUp
+  way-snoc v l m =
+      let p : parent level v ≤ v = parent-low level v in
+      rows-last (λ w. onPath level (suc v) w && f w) floor v m
+      ∙ ap₂ (λ (xs : List ℕ) (b : Bool). xs ++ only (b && f v) v)
+      (rows-same (λ w. onPath level (suc v) w && f w) (λ w. onPath level (parent level v) w && f w) floor v
+      (λ w a b. ap (λ (t : Bool). t && f w) (path-above s v l w b))
+      ∙ way-rows (parent level v) v (omega arith) p)
+      (path-own s v l)
+
 -- ── the walk ──
--- the rows on the path at or after row a
-abbrev pub pathFrom : List ℕ → ℕ → ℕ → ℕ → Bool
-pathFrom level place a w = onPath level place w && leb a w
+-- at most one row, turned round
+reverse-only : (b : Bool) (w : ℕ) → reverse (only b w) ≡ only b w
+reverse-only true w = refl
+reverse-only false w = refl
 
--- the rows on the path at or after row a are in, and the others are the path from a
-pub record Climbed (level : List ℕ) (n place : ℕ) (old words : List ℕ) (used a : ℕ) : Type 0 where
+-- the rows met are appended, from the last to the first, and the others are those of the way up from a
+pub record Climbed (level : List ℕ) (n floor start : ℕ) (test : ℕ → Bool) (d : List ℕ) (place : ℕ) (out : List ℕ)
+    (next a : ℕ) : Type 0 where
+  pub met : List ℕ
   pub low : a ≤ n
-  pub left : (w : ℕ) → w < a → onPath level place w ≡ onPath level a w
-  pub joined : Joined (pathFrom level place a) old words used
+  pub split : reverse (wayUp level floor start test) ≡ met ++ reverse (wayUp level floor a test)
+  pub appends : Appended met d place next out
 
-module _ {size level : List ℕ} {n : ℕ} {up : List ℕ} {place : ℕ} {old : List ℕ} {u : ℕ}
-    (h : Climbs size level n up place old u) where
-  pub climb-start : Climbed level n place old old u place
-  climb-start = record {
-    low = h .low;
-    left = λ w l. refl;
-    joined = joined-none (pathFrom level place place) (h .set) (λ w l t.
-        let x = both (onPath level place w) (leb place w) t in
-        absurd (omega (arith, path-before (h .shape) place w (h .low) (x .0), leb-true place w (x .1))));
-  }
+module _ {size level kind name up : List ℕ} {n floor start wk wn : ℕ} {d : List ℕ} {place : ℕ}
+    (h : WayIn size level kind name up n floor start wk wn d place) where
+  abbrev test : ℕ → Bool
+  test = fits wk wn kind name
 
-  module _ {words : List ℕ} {used a : ℕ} (s : Climbed level n place old words used a) where
-    pub climb-done : a ≤ 0 → Joined (onPath level place) old words used
-    climb-done q = joined-as (onPath level place) (s .joined)
-        (λ w l t. both (onPath level place w) (leb a w) t .0)
-        (λ w l t. either-left (has old w) (both-of t (le-leb a w (omega arith))))
+  -- the rows from place a on that are new, as they are met
+  abbrev left : ℕ → List ℕ
+  left a = reverse (wayUp level floor a test)
 
-    module _ (v : ℕ) (e : a ≡ suc v) where
-      -- the parent of row v, as the column has it
-      abbrev P : ℕ
-      P = at up v
+  pub climb-start : Climbed level n floor start test d place d place start
+  climb-start = record { met = []; low = h .low; split = refl; appends = appended-none d place }
 
+  -- what is appended in the end lies within the column
+  pub climb-end : {out : List ℕ} {r : ℕ} → Appended (left start) d place r out → r ≤ length out
+  climb-end g =
+      let k = length-reverse (wayUp level floor start test) in
+      omega (arith, g .many, h .room, appended-length g (omega (arith, h .room)))
+
+  module _ {out : List ℕ} {next a : ℕ} (s : Climbed level n floor start test d place out next a) where
+    -- how many rows are met and left
+    parts : length (wayUp level floor start test) ≡ length (s .met) + length (left a)
+    parts =
+        sym (length-reverse (wayUp level floor start test))
+        ∙ ap length (s .split)
+        ∙ length-append (s .met) (left a)
+
+    pub climb-length : length out ≡ length d
+    climb-length = appended-length (s .appends) (omega (arith, parts, h .room))
+
+    pub climb-done : a ≤ floor → Appended (reverse (wayUp level floor start test)) d place next out
+    climb-done l = appended-as
+        (sym (s .split
+        ∙ ap (λ (xs : List ℕ). s .met ++ reverse xs) (way-none level floor a test l)
+        ∙ append-nil (s .met)))
+        (s .appends)
+
+    module _ (v : ℕ) (e : a ≡ suc v) (m : floor < a) where
       row-in : v < n
       row-in = omega (arith, s .low)
 
@@ -140,68 +206,44 @@ module _ {size level : List ℕ} {n : ℕ} {up : List ℕ} {place : ℕ} {old : 
       pub climb-less : at up v < a
       climb-less = omega (arith, P-is, parent-low level v)
 
-      -- a row of the path before a is row v, or on the path from its parent
-      v-or-above : (w : ℕ) → w < a → onPath level place w ≡ (eqb w v || onPath level P w)
-      unfolding onPath
-      v-or-above w l =
-          s .left w l
-          ∙ ap (λ (k : ℕ). onPath level k w) e
-          ∙ ap (λ (b : Bool). eqb w v || b)
-          (ancestor-path (h .shape) v w row-in ∙ ap (λ (k : ℕ). onPath level k w) (sym P-is))
+      -- row v is met next
+      next-row : left a ≡ only (test v) v ++ left (at up v)
+      next-row =
+          ap left e
+          ∙ ap reverse (way-snoc (h .shape) floor test v row-in (omega arith))
+          ∙ reverse-append (wayUp level floor (parent level v) test) (only (test v) v)
+          ∙ ap₂ (λ (xs : List ℕ) (k : ℕ). xs ++ left k) (reverse-only (test v) v) (sym P-is)
 
-      -- the rows from the parent on are those from a on, and v
-      more-path : (w : ℕ) → (eqb w v || pathFrom level place a w) ≡ pathFrom level place P w
-      more-path w = same-test _ _ there back
-        where
-          there : (eqb w v || pathFrom level place a w) ≡ true → pathFrom level place P w ≡ true
-          there t = ⊎-elim
-              (λ z. let g : w ≡ v = eqb-true w v z in both-of
-              (v-or-above w (omega arith) ∙ either-left (onPath level P w) z)
-              (le-leb P w (omega (arith, climb-less))))
-              (λ z. let g = both (onPath level place w) (leb a w) z in
-              both-of (g .0) (le-leb P w (omega (arith, climb-less, leb-true a w (g .1)))))
-              (either (eqb w v) (pathFrom level place a w) t)
-
-          back : pathFrom level place P w ≡ true → (eqb w v || pathFrom level place a w) ≡ true
-          back t =
-              let g = both (onPath level place w) (leb P w) t in
-              let b : P ≤ w = leb-true P w (g .1) in
-              ⊎-elim
-              (λ (z : w < a). ⊎-elim
-              (λ y. either-left (pathFrom level place a w) y)
-              (λ y. absurd (omega (arith, path-before (h .shape) P w (omega (arith, climb-less, s .low)) y)))
-              (either (eqb w v) (onPath level P w) (sym (v-or-above w z) ∙ g .0)))
-              (λ (z : a ≤ w). either-right (eqb w v) (both-of (g .0) (le-leb a w z)))
-              (less? w a)
-
-      pub climb-next : {new : List ℕ} {r : ℕ} → Added words v new r → Climbed level n place old new r P
-      climb-next d = record {
+      -- it does not fit
+      pub climb-no : test v ≡ false → Climbed level n floor start test d place out next (at up v)
+      climb-no f = record {
+        met = s .met;
         low = omega (arith, climb-less, s .low);
-        left = λ w l.
-            v-or-above w (omega (arith, climb-less))
-            ∙ ap (λ (b : Bool). b || onPath level P w) (ne-eqb w v (λ (z : w ≡ v). omega (arith, climb-less)));
-        joined = joined-add (pathFrom level place P) (s .joined) d (λ w l. more-path w);
+        split =
+            s .split
+            ∙ ap (λ (xs : List ℕ). s .met ++ xs)
+            (next-row ∙ ap (λ (xs : List ℕ). xs ++ left (at up v)) (only-none (test v) v f));
+        appends = s .appends;
       }
 
-      -- row v is in already, so its ancestors are
-      pub climb-met : v < 4096 → has words v ≡ true → Joined (onPath level place) old words used
-      climb-met small t = joined-as (onPath level place) (s .joined)
-          (λ w l p. both (onPath level place w) (leb a w) p .0) rest
-        where
-          was : has old v ≡ true
-          was = ⊎-elim
-              (λ p. absurd (omega (arith, leb-true a v (both (onPath level place v) (leb a v) p .1))))
-              (λ p. p)
-              (either (pathFrom level place a v) (has old v) (sym (s .joined .rows v small) ∙ t))
+      -- it fits
+      module _ (f : test v ≡ true) where
+        fitting : left a ≡ v ∷ left (at up v)
+        fitting = next-row ∙ ap (λ (xs : List ℕ). xs ++ left (at up v)) (only-one (test v) v f)
 
-          above : (w : ℕ) → onPath level P w ≡ true → ancestor level w v ≡ true
-          above w y = ancestor-path (h .shape) v w row-in ∙ ap (λ (k : ℕ). onPath level k w) (sym P-is) ∙ y
+        room : next < length d
+        room = omega (arith, s .appends .many, parts, ap length fitting, h .room)
 
-          rest : (w : ℕ) → w < 4096 → onPath level place w ≡ true → (pathFrom level place a w || has old w) ≡ true
-          rest w l p = ⊎-elim
-              (λ (z : w < a). either-right (pathFrom level place a w) (⊎-elim
-              (λ y. subst (λ (k : ℕ). has old k ≡ true) (sym (eqb-true w v y)) was)
-              (λ y. h .closed v w row-in was (above w y))
-              (either (eqb w v) (onPath level P w) (sym (v-or-above w z) ∙ p))))
-              (λ (z : a ≤ w). either-left (has old w) (both-of p (le-leb a w z)))
-              (less? w a)
+        pub climb-place : next < length out
+        climb-place = omega (arith, room, climb-length)
+
+        pub climb-yes : Climbed level n floor start test d place (set out next v) (next + 1) (at up v)
+        climb-yes = record {
+          met = s .met ++ (v ∷ []);
+          low = omega (arith, climb-less, s .low);
+          split =
+              s .split
+              ∙ ap (λ (xs : List ℕ). s .met ++ xs) fitting
+              ∙ sym (append-snoc (s .met) v (left (at up v)));
+          appends = appended-more v (s .appends) room;
+        }

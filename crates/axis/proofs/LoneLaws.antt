@@ -19,9 +19,8 @@ use Rattle.tree.proofs.SoundLaws.{both, either, either-left, either-right}
 use Rattle.span.specs.Want.{fits}
 use Rattle.span.specs.Reach.{anyOn, oneRole, Wrote}
 use Rattle.span.specs.Range.{rowsIn, Appended, RangeIn}
-use Rattle.axis.specs.Mark.{onPath}
 use Rattle.axis.specs.Role.{climbsAxis}
-use Rattle.axis.specs.Path.{pathRows, lonePath, PathIn, LoneIn}
+use Rattle.axis.specs.Path.{onPath, pathRows, lonePath, PathIn, LoneIn}
 use Rattle.span.proofs.WantLaws.{fits-any}
 use Rattle.span.proofs.RangeLaws.{Covered, cover-start, cover-skip, cover-asks, cover-range, cover-done}
 use Rattle.axis.proofs.ClimbLaws.{parent-low, ancestor-path}

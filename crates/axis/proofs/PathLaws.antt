@@ -4,10 +4,9 @@
 -- Assumes nothing.
 use Prim.Native.Nat.{ℕ, zero, suc, _+_, _<_, _≤_}
 use mathlib.Core.Path.{_≡_, refl, sym, ap, _∙_}
-use mathlib.Core.Bool.{Bool, true, false, _||_, false≢true}
+use mathlib.Core.Bool.{false, false≢true}
 use mathlib.Core.List.{List, [], _∷_, _++_, append-nil}
 use native.Mathlib.Omega.{arith}
-use borrow.Author.Tests.{eq-eqb, ne-eqb}
 use lib.ListN.{length, getD, take, drop, set, length-append, length-take, length-drop, take-append-drop}
 use lib.Seq.{take-suc, set-at, append-snoc, length-take-le}
 use Rattle.tree.specs.Search.{gather}
@@ -16,13 +15,11 @@ use Rattle.tree.specs.Tree.{parent, ancestor}
 use Rattle.tree.specs.Rules.{Shape}
 use Rattle.tree.specs.Outcome.{overwritten}
 use Rattle.tree.proofs.SearchLaws.{gather-zero, gather-yes, gather-skip, gather-ext}
-use Rattle.tree.proofs.SoundLaws.{either-left}
 use Rattle.tree.proofs.AxisLaws.{same-test}
 use Rattle.tree.proofs.LevelLaws.{ancestors-count}
 use Rattle.span.specs.Reach.{Wrote}
-use Rattle.axis.specs.Mark.{onPath}
-use Rattle.axis.specs.Path.{pathRows, PathIn}
-use Rattle.axis.proofs.ClimbLaws.{parent-low, ancestor-path, path-before}
+use Rattle.axis.specs.Path.{onPath, pathRows, PathIn}
+use Rattle.axis.proofs.ClimbLaws.{parent-low, ancestor-path, path-before, path-own, path-above}
 
 -- ── the rows ──
 module _ {size level : List ℕ} {n : ℕ} (s : Shape size level n) where
@@ -38,17 +35,6 @@ module _ {size level : List ℕ} {n : ℕ} (s : Shape size level n) where
   path-none = path-cut 0 n (omega arith) (omega arith) ∙ gather-zero (onPath level 0)
 
   module _ (v : ℕ) (l : v < n) where
-    own : onPath level (suc v) v ≡ true
-    unfolding onPath
-    own = either-left (ancestor level v v) (eq-eqb v v refl)
-
-    -- an earlier row is on the path exactly if it is on the parent's
-    above : (w : ℕ) → w < v → onPath level (suc v) w ≡ onPath level (parent level v) w
-    unfolding onPath
-    above w m =
-        ap (λ (b : Bool). b || ancestor level w v) (ne-eqb w v (λ (e : w ≡ v). omega arith))
-        ∙ ancestor-path s v w l
-
     -- the parent's path ends before the row
     shorter : gather (onPath level (parent level v)) v ≡ gather (onPath level (parent level v)) n
     shorter =
@@ -59,9 +45,9 @@ module _ {size level : List ℕ} {n : ℕ} (s : Shape size level n) where
     unfolding pathRows
     path-snoc =
         path-cut (suc v) n (omega arith) (omega arith)
-        ∙ gather-yes (onPath level (suc v)) v own
+        ∙ gather-yes (onPath level (suc v)) v (path-own s v l)
         ∙ ap (λ (xs : List ℕ). xs ++ (v ∷ []))
-        (gather-ext (onPath level (suc v)) (onPath level (parent level v)) v above ∙ shorter)
+        (gather-ext (onPath level (suc v)) (onPath level (parent level v)) v (path-above s v l) ∙ shorter)
 
     -- a row has as many ancestors as its level says
     pub path-above-count : length (pathRows level n (parent level v)) ≡ at level v

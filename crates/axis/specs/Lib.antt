@@ -1,4 +1,5 @@
 pub mod RowSet
 pub mod Mark
 pub mod Path
+pub mod Above
 pub mod Role

@@ -1,15 +1,15 @@
 -- What the functions that mark the rows of one context ask for and leave, for the axes whose rows do not come out in
 -- order. Assumes nothing.
-use Prim.Native.Nat.{ℕ, zero, suc, _+_, _-_, _*_, _/_, _<_, _≤_}
+use Prim.Native.Nat.{ℕ, suc, _+_, _-_, _*_, _/_, _<_, _≤_}
 use mathlib.Core.Path.{_≡_}
-use mathlib.Core.Bool.{Bool, true, false, cond, _&&_, _||_}
+use mathlib.Core.Bool.{Bool, true, cond, _&&_, _||_}
 use mathlib.Core.List.{List}
 use lib.Dec.{ltb, leb, eqb}
 use lib.ListN.{length}
 use Rattle.tree.specs.Table.{at}
-use Rattle.tree.specs.Tree.{parent, ancestor}
+use Rattle.tree.specs.Tree.{parent}
 use Rattle.tree.specs.Rules.{Shape}
-use Rattle.span.specs.Reach.{Contexts, Parents}
+use Rattle.span.specs.Reach.{Contexts}
 use Rattle.axis.specs.RowSet.{has, inWord, RowSet, Marked}
 
 -- a column of 4,096 zeros
@@ -24,11 +24,6 @@ aboveOf path l = cond (eqb l 0) 0 (at path (l - 1) + 1)
 -- row w is a child of p, at or after row a and before row e
 unfoldable pub childIn : List ℕ → ℕ → ℕ → ℕ → ℕ → Bool
 childIn level p a e w = eqb (parent level w) (suc p) && (leb a w && ltb w e)
-
--- row w is the row that a place names, or one of its ancestors; a place is one more than a row, or 0 for none
-unfoldable pub onPath : List ℕ → ℕ → ℕ → Bool
-onPath level zero w = false
-onPath level (suc v) w = eqb w v || ancestor level w v
 
 -- the set with the rows that pass f
 pub record Joined (f : ℕ → Bool) (old new : List ℕ) (used : ℕ) : Type 0 where
@@ -62,14 +57,6 @@ pub record Gathers (size level : List ℕ) (n p a e : ℕ) : Type 0 where
   pub child : parent level a ≡ suc p
   pub inside : e ≤ p + at size p + 1
   pub word : e ≤ 64 * (a / 64) + 64
-
--- the row that a place names and its ancestors are to go in; with each row that is in, its ancestors are
-pub record Climbs (size level : List ℕ) (n : ℕ) (up : List ℕ) (place : ℕ) (words : List ℕ) (used : ℕ) : Type 0 where
-  pub shape : Shape size level n
-  pub parents : Parents level n up
-  pub low : place ≤ n
-  pub set : RowSet words used
-  pub closed : (v w : ℕ) → v < n → has words v ≡ true → ancestor level w v ≡ true → has words w ≡ true
 
 -- what the context at place i reaches is to go in; what the contexts of done reach is in
 pub record Turn (axis : ℕ) (size level : List ℕ) (n : ℕ) (cs : List ℕ) (i : ℕ) (done words : List ℕ) (used : ℕ)

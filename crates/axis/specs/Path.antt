@@ -1,15 +1,20 @@
--- The way up from the one context of a role, written without a set: which rows it has, and what the functions that
--- write it ask for. Assumes nothing.
-use Prim.Native.Nat.{ℕ, _≤_}
+-- The rows on a way up. Of the way up from the one context of a role, written without a set: which rows it has, and
+-- what the functions that write it ask for. Assumes nothing.
+use Prim.Native.Nat.{ℕ, zero, suc, _≤_}
 use mathlib.Core.Path.{_≡_}
-use mathlib.Core.Bool.{Bool, true, _&&_, _||_}
+use mathlib.Core.Bool.{Bool, true, false, _&&_, _||_}
 use mathlib.Core.List.{List}
 use lib.Dec.{eqb}
 use lib.ListN.{length}
 use Rattle.tree.specs.Search.{gather}
+use Rattle.tree.specs.Tree.{ancestor}
 use Rattle.tree.specs.Rules.{Shape}
 use Rattle.span.specs.Reach.{RoleIn, Parents}
-use Rattle.axis.specs.Mark.{onPath}
+
+-- row w is the row that a place names, or one of its ancestors; a place is one more than a row, or 0 for none
+unfoldable pub onPath : List ℕ → ℕ → ℕ → Bool
+onPath level zero w = false
+onPath level (suc v) w = eqb w v || ancestor level w v
 
 -- the rows below n that a place names or that are its ancestors, ascending
 unfoldable pub pathRows : List ℕ → ℕ → ℕ → List ℕ

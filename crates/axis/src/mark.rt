@@ -2,7 +2,6 @@
 // cost is that of the contexts and of the rows that go in, each once: no walk goes on over rows that are in the set
 // already.
 use super::row_set;
-use super::walk::climb;
 use super::walk::hop;
 ghost use Prim.Native.Nat.{_+_, _-_, _<_};
 ghost use mathlib.Core.Path.{_≡_};
@@ -111,43 +110,6 @@ fn parent_of(
     row_set::add(words, used, q - 1)
 }
 
-// Marks the ancestors of the context at place i.
-fn ancestors_of(
-    size: &[usize],
-    level: &[usize],
-    up: &[usize; 4096],
-    count: usize,
-    rows: &[usize],
-    i: usize,
-    words: &mut [u64; 64],
-    used: u64,
-) -> u64
-    requires { ⌜ Turn 6 (now size) (now level) count (now rows) i (take i (now rows)) (now words) used ⌝ }
-    requires { ⌜ Parents (now level) count (now up) ⌝ }
-    ensures { λ r. ⌜ Marked 6 (now (level .entry)) count (take (i + 1) (now (rows .entry))) (now (words .exit)) r ⌝ }
-{
-    let c = rows[i];
-    climb(size, level, up, count, up[c], words, used)
-}
-
-// Marks the context at place i and its ancestors.
-fn self_and_ancestors_of(
-    size: &[usize],
-    level: &[usize],
-    up: &[usize; 4096],
-    count: usize,
-    rows: &[usize],
-    i: usize,
-    words: &mut [u64; 64],
-    used: u64,
-) -> u64
-    requires { ⌜ Turn 7 (now size) (now level) count (now rows) i (take i (now rows)) (now words) used ⌝ }
-    requires { ⌜ Parents (now level) count (now up) ⌝ }
-    ensures { λ r. ⌜ Marked 7 (now (level .entry)) count (take (i + 1) (now (rows .entry))) (now (words .exit)) r ⌝ }
-{
-    climb(size, level, up, count, rows[i] + 1, words, used)
-}
-
 // Marks the later siblings of the context at place i.
 fn later_siblings_of(
     size: &[usize],
@@ -242,50 +204,6 @@ pub(crate) fn mark_parents(
     let mut i: usize = 0;
     while i < rows.len() {
         used = parent_of(size, level, up, count, rows, i, words, used);
-        i = i + 1;
-    }
-    used
-}
-
-// Axis 6: the ancestors of the contexts.
-pub(crate) fn mark_ancestors(
-    size: &[usize],
-    level: &[usize],
-    up: &[usize; 4096],
-    count: usize,
-    rows: &[usize],
-    words: &mut [u64; 64],
-) -> u64
-    requires { ⌜ Marks (now size) (now level) count (now rows) (now words) ⌝ }
-    requires { ⌜ Parents (now level) count (now up) ⌝ }
-    ensures { λ r. ⌜ Marked 6 (now (level .entry)) count (now (rows .entry)) (now (words .exit)) r ⌝ }
-{
-    let mut used: u64 = 0;
-    let mut i: usize = 0;
-    while i < rows.len() {
-        used = ancestors_of(size, level, up, count, rows, i, words, used);
-        i = i + 1;
-    }
-    used
-}
-
-// Axis 7: the contexts and their ancestors.
-pub(crate) fn mark_self_and_ancestors(
-    size: &[usize],
-    level: &[usize],
-    up: &[usize; 4096],
-    count: usize,
-    rows: &[usize],
-    words: &mut [u64; 64],
-) -> u64
-    requires { ⌜ Marks (now size) (now level) count (now rows) (now words) ⌝ }
-    requires { ⌜ Parents (now level) count (now up) ⌝ }
-    ensures { λ r. ⌜ Marked 7 (now (level .entry)) count (now (rows .entry)) (now (words .exit)) r ⌝ }
-{
-    let mut used: u64 = 0;
-    let mut i: usize = 0;
-    while i < rows.len() {
-        used = self_and_ancestors_of(size, level, up, count, rows, i, words, used);
         i = i + 1;
     }
     used

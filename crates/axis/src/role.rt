@@ -6,7 +6,9 @@ ghost use Rattle.span.specs.Reach.{oneRole, RoleIn, Wrote, Parents, Roots};
 ghost use Rattle.span.specs.Want.{fits};
 ghost use Rattle.axis.specs.RowSet.{Marks, Marked};
 ghost use Rattle.axis.specs.Mark.{Zeros};
-ghost use Rattle.axis.specs.Role.{rangedAxis, markedAxis, climbsAxis, sideAxis, UpFor, RoleAsk, RoleDone};
+ghost use Rattle.axis.specs.Role.{rangedAxis, aboveAxis, markedAxis, climbsAxis, sideAxis, UpFor};
+ghost use Rattle.axis.specs.Role.{RoleAsk, RoleDone};
+use super::above;
 use super::mark;
 use super::path;
 use super::row_set;
@@ -109,6 +111,13 @@ fn ranged(
     }
 }
 
+// Whether the rows of the axis are on the ways up from the contexts.
+fn is_above(axis: usize) -> bool
+    ensures { λ r. ⌜ r ≡ aboveAxis axis ⌝ }
+{
+    either(axis == 6, axis == 7)
+}
+
 // The other axes: puts the rows into the set, answers which of its words are used.
 fn marked(
     axis: usize,
@@ -127,8 +136,6 @@ fn marked(
     match axis {
         2 => mark::mark_children(size, level, count, rows, words),
         5 => mark::mark_parents(size, level, up, count, rows, words),
-        6 => mark::mark_ancestors(size, level, up, count, rows, words),
-        7 => mark::mark_self_and_ancestors(size, level, up, count, rows, words),
         10 => mark::mark_later_siblings(size, level, up, count, rows, words),
         _ => mark::mark_earlier_siblings(size, level, up, count, rows, words),
     }
@@ -206,6 +213,21 @@ pub fn one_role(
     if path::is_lone(axis, rows.len(), want_kind, want_name) {
         return path::lone_rows(
             axis,
+            size,
+            level,
+            kind,
+            name,
+            up,
+            count,
+            rows,
+            want_kind,
+            want_name,
+            out,
+        );
+    }
+    if is_above(axis) {
+        return above::rows_above(
+            axis - 6,
             size,
             level,
             kind,

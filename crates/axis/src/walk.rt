@@ -1,8 +1,7 @@
-// Walks that put rows into a set of rows, from child to child and from parent to parent. The cost is that of the
-// rows that go in.
+// The walk that puts rows into a set of rows, from child to child. The cost is that of the rows that go in.
 use super::row_set;
 ghost use Prim.Native.Nat.{_+_, _*_, _/_, _<_, _≤_};
-ghost use Rattle.axis.specs.Mark.{childIn, onPath, Joined, Hops, Gathers, Gathered, Climbs};
+ghost use Rattle.axis.specs.Mark.{childIn, Joined, Hops, Gathers, Gathered};
 
 // Where a walk over one word is: the next row, and the bits of the rows met.
 struct Spot {
@@ -107,31 +106,4 @@ fn past_leaves(
         }
     }
     Spot { row: w, word }
-}
-
-// Puts the row that `place` names, one more than the row, 0 for none, and its ancestors into the set. Where one is
-// in already, so are those above it.
-pub(crate) fn climb(
-    size: &[usize],
-    level: &[usize],
-    up: &[usize; 4096],
-    count: usize,
-    place: usize,
-    words: &mut [u64; 64],
-    used: u64,
-) -> u64
-    requires { ⌜ Climbs (now size) (now level) count (now up) place (now words) used ⌝ }
-    ensures { λ r. ⌜ Joined (onPath (now (level .entry)) place) (now (words .entry)) (now (words .exit)) r ⌝ }
-{
-    let mut mark = used;
-    let mut at = place;
-    while 0 < at {
-        let v = at - 1;
-        if row_set::holds(words, v) {
-            return mark;
-        }
-        mark = row_set::add(words, mark, v);
-        at = up[v];
-    }
-    mark
 }

@@ -67,14 +67,15 @@ module _ (axis : ℕ) (level : List ℕ) (test : ℕ → Bool) (cs : List ℕ) w
   role-skip a b l h =
       gather-skip (reached axis level test cs) a b l (λ w p q. ap (λ (x : Bool). x && test w) (h w p q))
 
-  -- of rows on a context's axis those are added that pass
-  pub role-range : (a b : ℕ) → a ≤ b → ((w : ℕ) → a ≤ w → w < b → anyOn axis level cs w ≡ true)
-      → oneRole axis level b test cs ≡ oneRole axis level a test cs ++ rowsIn test a b
+  -- the rows from a on, and before b, are added, where f passes those of them that are on a context's axis
+  pub role-part : (f : ℕ → Bool) (a b : ℕ) → a ≤ b → ((w : ℕ) → a ≤ w → w < b → anyOn axis level cs w ≡ f w)
+      → oneRole axis level b test cs ≡ oneRole axis level a test cs ++ rowsIn (λ w. f w && test w) a b
   unfolding oneRole
-  role-range a b l h =
+  role-part f a b l h =
       rows-join (reached axis level test cs) a b l
       ∙ ap (λ (xs : List ℕ). gather (reached axis level test cs) a ++ xs)
-      (rows-same (reached axis level test cs) test a b (λ w p q. ap (λ (x : Bool). x && test w) (h w p q)))
+      (rows-same (reached axis level test cs) (λ w. f w && test w) a b
+      (λ w p q. ap (λ (x : Bool). x && test w) (h w p q)))
 
 -- ── writing them, ascending ──
 -- the rows reached below pos are written, next is how many they are, and there is room for all
@@ -103,27 +104,37 @@ module _ {axis n next pos : ℕ} {level cs d out : List ℕ} {test : ℕ → Boo
       → Wrote (oneRole axis level n test cs) d next out
   cover-done h = wrote-as (sym (role-skip axis level test cs pos n (s .inside) h)) (s .wrote)
 
-  module _ (to : ℕ) (l : pos ≤ to) (m : to ≤ n)
-      (h : (w : ℕ) → pos ≤ w → w < to → anyOn axis level cs w ≡ true) where
-    -- how many rows are reached below the end of a range on a context's axis
+  module _ (to : ℕ) (l : pos ≤ to) (m : to ≤ n) (f : ℕ → Bool)
+      (h : (w : ℕ) → pos ≤ w → w < to → anyOn axis level cs w ≡ f w) where
+    -- how many rows are reached below the end of a range of which f passes those on a context's axis
     counted : length (oneRole axis level to test cs)
-        ≡ length (oneRole axis level pos test cs) + length (rowsIn test pos to)
+        ≡ length (oneRole axis level pos test cs) + length (rowsIn (λ w. f w && test w) pos to)
     counted =
-        ap length (role-range axis level test cs pos to l h)
-        ∙ length-append (oneRole axis level pos test cs) (rowsIn test pos to)
+        ap length (role-part axis level test cs f pos to l h)
+        ∙ length-append (oneRole axis level pos test cs) (rowsIn (λ w. f w && test w) pos to)
 
     -- there is room for those of the range
-    pub cover-room : next + length (rowsIn test pos to) ≤ length out
-    cover-room = omega (arith, s .wrote .many, cover-length, counted, s .room, role-grows axis level test cs to n m)
+    pub part-room : next + length (rowsIn (λ w. f w && test w) pos to) ≤ length out
+    part-room = omega (arith, s .wrote .many, cover-length, counted, s .room, role-grows axis level test cs to n m)
 
     -- once they are appended
-    pub cover-range : {r : ℕ} {new : List ℕ} → Appended (rowsIn test pos to) out next r new
+    pub cover-part : {r : ℕ} {new : List ℕ} → Appended (rowsIn (λ w. f w && test w) pos to) out next r new
         → Covered axis level n test cs d new r to
-    cover-range a = record {
+    cover-part a = record {
       room = s .room;
       inside = m;
-      wrote = wrote-as (sym (role-range axis level test cs pos to l h)) (wrote-appended (s .wrote) a);
+      wrote = wrote-as (sym (role-part axis level test cs f pos to l h)) (wrote-appended (s .wrote) a);
     }
+
+  -- a range that is all on a context's axis
+  module _ (to : ℕ) (l : pos ≤ to) (m : to ≤ n)
+      (h : (w : ℕ) → pos ≤ w → w < to → anyOn axis level cs w ≡ true) where
+    pub cover-room : next + length (rowsIn test pos to) ≤ length out
+    cover-room = part-room to l m (λ w. true) h
+
+    pub cover-range : {r : ℕ} {new : List ℕ} → Appended (rowsIn test pos to) out next r new
+        → Covered axis level n test cs d new r to
+    cover-range = cover-part to l m (λ w. true) h
 
 module _ {axis : ℕ} {size level kind name : List ℕ} {n wk wn : ℕ} {cs d : List ℕ}
     (pre : RoleIn axis size level kind name n wk wn cs d) where

@@ -57,6 +57,33 @@ rows-ext from f g (suc k) h =
     (rows-ext from f g k (λ i l. h i (omega arith))) (h k (le-refl (suc k)))
     ∙ sym (rows-suc from g k)
 
+-- places that do not pass add nothing
+rows-stop : (from : ℕ) (f : ℕ → Bool) (j k : ℕ) → j ≤ k → ((i : ℕ) → j ≤ i → i < k → f i ≡ false)
+    → rowsFrom from f k ≡ rowsFrom from f j
+rows-stop from f j zero l h = ap (rowsFrom from f) (let e : zero ≡ j = omega arith in e)
+rows-stop from f j (suc k) l h = ⊎-elim
+    (λ e. ap (rowsFrom from f) (sym e))
+    (λ m. rows-suc from f k
+    ∙ ap (λ (xs : List ℕ). rowsFrom from f k ++ xs)
+    (only-none (f k) (from + k) (h k (le-of-suc-le-suc m) (le-refl (suc k))))
+    ∙ append-nil (rowsFrom from f k)
+    ∙ rows-stop from f j k (le-of-suc-le-suc m) (λ i x y. h i x (omega arith)))
+    (eq-or-lt-of-le l)
+
+-- rows at the end of a range that do not pass add nothing
+pub rows-cut : (f : ℕ → Bool) (from a b : ℕ) → a ≤ b → ((w : ℕ) → a ≤ w → w < b → f w ≡ false)
+    → rowsIn f from b ≡ rowsIn f from a
+rows-cut f from a b l h =
+    rows-stop from (λ k. f (from + k)) (a - from) (b - from) (omega arith)
+    (λ i x y. h (from + i) (omega arith) (omega arith))
+
+-- one row more at the end of a range
+pub rows-last : (f : ℕ → Bool) (from v : ℕ) → from ≤ v → rowsIn f from (suc v) ≡ rowsIn f from v ++ only (f v) v
+rows-last f from v l =
+    ap (rowsFrom from (λ k. f (from + k))) (let e : suc v - from ≡ suc (v - from) = omega arith in e)
+    ∙ rows-suc from (λ k. f (from + k)) (v - from)
+    ∙ ap (λ (w : ℕ). rowsIn f from v ++ only (f w) w) (let e : from + (v - from) ≡ v = omega arith in e)
+
 -- what passes below a row, and then the k rows from there on
 rows-after : (f : ℕ → Bool) (from k : ℕ) → gather f (from + k) ≡ gather f from ++ rowsFrom from (λ i. f (from + i)) k
 rows-after f from zero =
@@ -153,7 +180,7 @@ pub part-length : (column : List ℕ) (from to : ℕ) → to ≤ length column
 part-length column from to l = simp (length-take, length-drop) (omega arith)
 
 -- ── a range of at most one row ──
-rows-empty : (f : ℕ → Bool) (from to : ℕ) → to ≤ from → rowsIn f from to ≡ []
+pub rows-empty : (f : ℕ → Bool) (from to : ℕ) → to ≤ from → rowsIn f from to ≡ []
 rows-empty f from to l =
     ap (rowsFrom from (λ k. f (from + k))) (let e : to - from ≡ 0 = omega arith in e)
     ∙ rows-none from (λ k. f (from + k))

@@ -1,9 +1,10 @@
--- `axis::role::one_role` meets its contract: an axis that is not ranged goes through the set, unless the rows are on
--- the way up of a lone context. Assumes nothing.
+-- `axis::role::one_role` meets its contract: an axis that is not ranged goes through the set, unless its rows are on
+-- the ways up from the contexts. Assumes nothing.
 use mathlib.Core.Path.{sym, _∙_}
+use native.Mathlib.Omega.{arith}
 use Rattle.span.proofs.WroteLaws.{wrote-as}
 use Rattle.axis.proofs.LoneLaws.{lone-climbs}
-use Rattle.axis.proofs.RoleAxisLaws.{marked-rest, marked-rows, marked-drains}
+use Rattle.axis.proofs.RoleAxisLaws.{role-as, wrote-axis, above-own, marked-rest, marked-rows, marked-drains}
 use borrow.Author.Needs.{needs}
 use Rattle.axis.proofs.role.one_role.Statement.{statement}
 use Rattle.axis.proofs.role.one_role.Tie as tie
@@ -50,27 +51,54 @@ returns-2 c =
       blank = start (call .before .before .before .before) .pre .blank;
     }
 
-marked-requires : tie.Need-marked-requires
-marked-requires c κs =
-    let other = c .before .before .before in
-    let pre = start other .pre in (
-      marked-rest _ (pre .known) (sym (other .before .is-ranged .ensures) ∙ other .if1 .left),
-      (record { shape = pre .asks .shape; contexts = pre .asks .contexts; blank = pre .blank }, pre .links .parents),
-    )
+is-above-requires : tie.Need-is-above-requires
+is-above-requires c κs = search needs
 
-drain-requires : tie.Need-drain-requires
-drain-requires c κs =
-    let marks = c .before .before in
-    let pre = start (marks .before .before .before .before) .pre in
-    marked-drains (marks .marked .ensures) (pre .asks .shape .few) (pre .asks)
+sub-rows-above : tie.Need-sub-rows-above
+sub-rows-above c = omega (arith, above-own _ (sym (c .before .is-above .ensures) ∙ c .if3 .taken) .1)
+
+rows-above-requires : tie.Need-rows-above-requires
+rows-above-requires c κs =
+    let pre = start (c .before .before .before .before .before) .pre in
+    let own = above-own _ (sym (c .before .before .is-above .ensures) ∙ c .before .if3 .taken) in
+    ((own .0, role-as (sym (own .1)) (pre .asks)), pre .links .parents (own .2))
 
 same-length-3 : tie.Need-same-length-3
 same-length-3 c = search needs
 
 returns-3 : tie.Need-returns-3
 returns-3 c =
+    let call = c .before .before in
+    let asked = call .before .before in
+    let own = above-own _ (sym (asked .before .is-above .ensures) ∙ asked .if3 .taken) in
+    record {
+      wrote = wrote-axis _ _ _ _ (sym (own .1)) (call .rows-above .ensures);
+      blank = start (asked .before .before .before .before) .pre .blank;
+    }
+
+marked-requires : tie.Need-marked-requires
+marked-requires c κs =
+    let next = c .before in
+    let other = next .before .before .before .before in
+    let pre = start other .pre in (
+      marked-rest _ (pre .known) (sym (other .before .is-ranged .ensures) ∙ other .if1 .left)
+          (sym (next .before .is-above .ensures) ∙ next .if3 .left),
+      (record { shape = pre .asks .shape; contexts = pre .asks .contexts; blank = pre .blank }, pre .links .parents),
+    )
+
+drain-requires : tie.Need-drain-requires
+drain-requires c κs =
+    let marks = c .before .before in
+    let pre = start (marks .before .before .before .before .before .before) .pre in
+    marked-drains (marks .marked .ensures) (pre .asks .shape .few) (pre .asks)
+
+same-length-4 : tie.Need-same-length-4
+same-length-4 c = search needs
+
+returns-4 : tie.Need-returns-4
+returns-4 c =
     let marks = c .before .before .before .before .before in
-    let pre = start (marks .before .before .before .before) .pre in
+    let pre = start (marks .before .before .before .before .before .before) .pre in
     record {
       wrote =
           wrote-as (marked-rows (marks .marked .ensures) (pre .asks .shape .few) _)
@@ -90,7 +118,12 @@ one-role-spec =
     lone-rows-requires
     same-length-2
     returns-2
+    is-above-requires
+    sub-rows-above
+    rows-above-requires
+    same-length-3
+    returns-3
     marked-requires
     drain-requires
-    same-length-3
-    returns-3)
+    same-length-4
+    returns-4)
