@@ -23,7 +23,7 @@ use Rattle.tree.proofs.SoundLaws.{shape-steps, either, either-left, either-righ
 use Rattle.tree.proofs.AxisLaws.{same-test, false-of}
 use Rattle.span.specs.Want.{fits}
 use Rattle.span.specs.Range.{rowsIn, Appended}
-use Rattle.span.proofs.ScanLaws.{rows-same, rows-cut, rows-last, rows-empty}
+use Rattle.span.proofs.ScanLaws.{rows-same, rows-ended, rows-last, rows-empty}
 use Rattle.span.proofs.AppendedLaws.{appended-as, appended-none, appended-more, appended-length}
 use Rattle.axis.specs.Path.{onPath}
 use Rattle.axis.specs.Above.{wayUp, WayIn}
@@ -129,7 +129,7 @@ module _ {size level : List ℕ} {n : ℕ} (s : Shape size level n) (floor : ℕ
   pub way-rows : (start to : ℕ) → start ≤ n → start ≤ to
       → rowsIn (λ w. onPath level start w && f w) floor to ≡ wayUp level floor start f
   unfolding wayUp
-  way-rows start to l m = rows-cut (λ w. onPath level start w && f w) floor start to m (λ w a b.
+  way-rows start to l m = rows-ended (λ w. onPath level start w && f w) floor start to m (λ w a b.
       ap (λ (t : Bool). t && f w)
       (false-of (onPath level start w) (λ t. omega (arith, path-before s start w l t))))
 

@@ -1,7 +1,7 @@
 -- The children of a row in rows whose levels and sizes make a tree, met by hops over subtrees: `child-within`,
 -- `child-first`, `child-next`, `child-none`, `child-empty`. The walk that puts them into a set, word by word:
 -- `hop-start`, `hop-gathers`, `hop-next`, `hop-done`, and where it has nothing to do, `hop-nothing`, `hop-met`.
--- Its rows are in use: `row-in-use`. Assumes nothing.
+-- Its rows are in use: `row-in-use`; and below the row: `in-under`. Assumes nothing.
 use Prim.Native.Nat.{ℕ, suc, _+_, _*_, _/_, _<_, _≤_}
 use mathlib.Core.Path.{_≡_, refl, sym, ap, _∙_}
 use mathlib.Core.Logic.{_⊎_, ⊎-elim}
@@ -30,7 +30,7 @@ module _ {size level : List ℕ} {n : ℕ} (s : Shape size level n) where
   row-in-use {p} m h v q = omega (arith, shape-fits s p m)
 
   -- the next size rows are deeper, and no row past them is deeper without a break
-  in-under : (c w : ℕ) → c < n → c < w → w ≤ c + at size c → Under level c w
+  pub in-under : (c w : ℕ) → c < n → c < w → w ≤ c + at size c → Under level c w
   in-under c w m a b =
       let l : w < n = omega (arith, shape-fits s c m) in
       ancestor-under level n (shape-steps s) c w l .0 (shape-descendants s c w m l .1 (a, b))

@@ -1,6 +1,6 @@
--- Sets of rows that grow. What is on the axis of one of several contexts: `any-take-more`, `any-also`. The set with
--- more rows: `joined-none`, `joined-as`, `joined-add`, `joined-more`. The set of what the contexts so far reach:
--- `marked-none`, `marked-as`, `marked-more`. A set is used through `has` alone. Assumes nothing.
+-- Sets of rows that grow. What is on the axis of one of several contexts: `any-append`, `any-take-more`, `any-also`.
+-- The set with more rows: `joined-none`, `joined-as`, `joined-add`, `joined-more`. The set of what the contexts so far
+-- reach: `marked-none`, `marked-as`, `marked-more`. A set is used through `has` alone. Assumes nothing.
 use Prim.Native.Nat.{ℕ, zero, suc, _+_, _<_}
 use mathlib.Core.Path.{_≡_, refl, sym, ap, ap₂, _∙_}
 use mathlib.Core.Logic.{⊎-elim}
@@ -37,7 +37,7 @@ module _ (axis : ℕ) (level : List ℕ) where
   unfolding anyOn
   any-one c w = or-false (onAxis axis level c w)
 
-  any-append : (xs ys : List ℕ) (w : ℕ)
+  pub any-append : (xs ys : List ℕ) (w : ℕ)
       → anyOn axis level (xs ++ ys) w ≡ (anyOn axis level xs w || anyOn axis level ys w)
   unfolding anyOn
   any-append [] ys w = refl

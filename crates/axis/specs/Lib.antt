@@ -2,4 +2,5 @@ pub mod RowSet
 pub mod Mark
 pub mod Path
 pub mod Above
+pub mod Siblings
 pub mod Role

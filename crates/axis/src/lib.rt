@@ -5,4 +5,5 @@ mod walk; // walk.rt: from sibling to sibling
 mod mark; // mark.rt: the axes whose rows are put into a set
 mod path; // path.rt: the way up from a lone context
 mod above; // above.rt: the ways up from contexts that ascend
+mod siblings; // siblings.rt: the later siblings, group by group
 pub mod role; // role.rt: one role on any axis

@@ -12,6 +12,7 @@ use super::above;
 use super::mark;
 use super::path;
 use super::row_set;
+use super::siblings;
 use span::ranges;
 use tree::logic::either;
 
@@ -136,7 +137,6 @@ fn marked(
     match axis {
         2 => mark::mark_children(size, level, count, rows, words),
         5 => mark::mark_parents(size, level, up, count, rows, words),
-        10 => mark::mark_later_siblings(size, level, up, count, rows, words),
         _ => mark::mark_earlier_siblings(size, level, up, count, rows, words),
     }
 }
@@ -207,6 +207,21 @@ pub fn one_role(
             rows,
             want_kind,
             want_name,
+            out,
+        );
+    }
+    if axis == 10 {
+        return siblings::later_siblings(
+            size,
+            level,
+            kind,
+            name,
+            up,
+            count,
+            rows,
+            want_kind,
+            want_name,
+            words,
             out,
         );
     }

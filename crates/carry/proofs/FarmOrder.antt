@@ -55,8 +55,8 @@ thenDeletes = record { count = 9; first = 4; moved = negsuc 1 }
 pub farm-order : carried 7 (pos 1) (carried 4 (negsuc 1) held) ≡ carried 4 (negsuc 1) (carried 9 (pos 1) held)
 unfolding least someBelow nearest shortest countOk levelOk runOf sizeOf sizeOk kindOk hasName nameOk rowOf keyOk restOk
     rowOk firstBad parent above ancestor otherRoot given givenAt next tableCheck keyCheck badPiece insertCheck
-    deleteCheck editIf editCheck insertOutcome deleteOutcome opened closed changed gapOf inserted deleted minus insertDone
-    deleteDone
+    deleteCheck editIf editCheck insertOutcome deleteOutcome opened closed changed gapOf inserted deleted minus
+    insertDone deleteDone
 farm-order =
     either-order (deletion 21) (insertion 31 leaf) farm farm-independent held held-inside
     deletes thenInserts inserts thenDeletes refl refl refl refl
@@ -75,8 +75,8 @@ pub farm-back : (carried 4 (pos 1) (carried 4 (negsuc 1) (pair 5 2 ∷ [])) ≡ 
     × (refound farm (inTurn (deletion 21) (insertion 20 blade) farm .table) (pair 5 2 ∷ []) ≡ pair 5 4 ∷ [])
 unfolding least someBelow nearest shortest countOk levelOk runOf sizeOf sizeOk kindOk hasName nameOk rowOf keyOk restOk
     rowOk firstBad parent above ancestor otherRoot given givenAt next tableCheck keyCheck badPiece insertCheck
-    deleteCheck editIf editCheck insertOutcome deleteOutcome opened closed changed gapOf inserted deleted minus insertDone
-    deleteDone carried carriedBy wasDeleted refound
+    deleteCheck editIf editCheck insertOutcome deleteOutcome opened closed changed gapOf inserted deleted minus
+    insertDone deleteDone carried carriedBy wasDeleted refound
 farm-back = (refl, refl)
 
 -- ── several farms ──

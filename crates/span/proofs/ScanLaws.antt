@@ -2,15 +2,17 @@
 -- of the columns, `range-..`; a range of at most one row, `one-..`. Assumes nothing.
 use mathlib.Core.Path.{_≡_, refl, sym, ap, ap₂, subst, subst₂, _∙_}
 use mathlib.Core.Logic.{⊎-elim}
-use mathlib.Core.Bool.{Bool, true, false}
+use mathlib.Core.Bool.{Bool, true, false, _&&_}
 use mathlib.Core.List.{List, [], _∷_, _++_, append-assoc, append-nil}
 use Prim.Native.Nat.{ℕ, zero, suc, _+_, _-_, _^_, _<_, _≤_}
 use native.Mathlib.Nat.{le-refl, le-of-suc-le-suc, eq-or-lt-of-le, add-zero, add-suc}
 use native.Mathlib.Numerals.{add-one}
 use native.Mathlib.Omega.{arith}
+use borrow.Author.Tests.{le-leb, lt-leb}
+use lib.Dec.{leb}
 use lib.ListN.{length, take, drop, set, length-append, length-take, length-drop}
 use Rattle.tree.specs.Search.{gather, only}
-use Rattle.tree.proofs.SearchLaws.{only-none, only-one, gather-suc}
+use Rattle.tree.proofs.SearchLaws.{only-none, only-one, gather-zero, gather-suc, gather-skip}
 use Rattle.span.specs.Want.{fits}
 use Rattle.span.specs.Range.{rowsFrom, rowsIn, Appended, ScanIn, RangeIn}
 use Rattle.span.proofs.AppendedLaws.{appended-as, appended-none, appended-more, appended-length}
@@ -71,9 +73,9 @@ rows-stop from f j (suc k) l h = ⊎-elim
     (eq-or-lt-of-le l)
 
 -- rows at the end of a range that do not pass add nothing
-pub rows-cut : (f : ℕ → Bool) (from a b : ℕ) → a ≤ b → ((w : ℕ) → a ≤ w → w < b → f w ≡ false)
+pub rows-ended : (f : ℕ → Bool) (from a b : ℕ) → a ≤ b → ((w : ℕ) → a ≤ w → w < b → f w ≡ false)
     → rowsIn f from b ≡ rowsIn f from a
-rows-cut f from a b l h =
+rows-ended f from a b l h =
     rows-stop from (λ k. f (from + k)) (a - from) (b - from) (omega arith)
     (λ i x y. h (from + i) (omega arith) (omega arith))
 
@@ -106,6 +108,33 @@ pub rows-same : (f g : ℕ → Bool) (from to : ℕ) → ((w : ℕ) → from ≤
 rows-same f g from to h =
     rows-ext from (λ k. f (from + k)) (λ k. g (from + k)) (to - from)
     (λ i l. h (from + i) (omega arith) (omega arith))
+
+-- the rows from a row on as all rows that pass and are not before it
+rows-from-on : (f : ℕ → Bool) (from to : ℕ) → from ≤ to → gather (λ w. leb from w && f w) to ≡ rowsIn f from to
+rows-from-on f from to l =
+    rows-join (λ w. leb from w && f w) from to l
+    ∙ ap₂ _++_
+    (gather-skip (λ w. leb from w && f w) 0 from (omega arith) (λ w x y. ap (λ (b : Bool). b && f w) (lt-leb from w y))
+    ∙ gather-zero (λ w. leb from w && f w))
+    (rows-same (λ w. leb from w && f w) f from to (λ w x y. ap (λ (b : Bool). b && f w) (le-leb from w x)))
+
+-- a range, cut in two
+pub rows-cut : (f : ℕ → Bool) (from mid to : ℕ) → from ≤ mid → mid ≤ to
+    → rowsIn f from to ≡ rowsIn f from mid ++ rowsIn f mid to
+rows-cut f from mid to l m =
+    sym (rows-from-on f from to (omega arith))
+    ∙ rows-join (λ w. leb from w && f w) mid to m
+    ∙ ap₂ _++_ (rows-from-on f from mid l)
+    (rows-same (λ w. leb from w && f w) f mid to (λ w x y. ap (λ (b : Bool). b && f w) (le-leb from w (omega arith))))
+
+-- a range in which none passes
+pub rows-skip : (f : ℕ → Bool) (from to : ℕ) → ((w : ℕ) → from ≤ w → w < to → f w ≡ false) → rowsIn f from to ≡ []
+rows-skip f from to h =
+    rows-same f (λ w. false) from to h ∙ nothing (to - from)
+  where
+    nothing : (k : ℕ) → rowsFrom from (λ i. false) k ≡ []
+    nothing zero = rows-none from (λ i. false)
+    nothing (suc k) = rows-suc from (λ i. false) k ∙ ap (λ (l : List ℕ). l ++ []) (nothing k)
 
 -- ── the loop ──
 -- the rows of the first i places are appended, and next is the place after them
@@ -185,7 +214,7 @@ rows-empty f from to l =
     ap (rowsFrom from (λ k. f (from + k))) (let e : to - from ≡ 0 = omega arith in e)
     ∙ rows-none from (λ k. f (from + k))
 
-rows-one : (f : ℕ → Bool) (from to : ℕ) → from < to → to ≤ from + 1 → rowsIn f from to ≡ only (f from) from
+pub rows-one : (f : ℕ → Bool) (from to : ℕ) → from < to → to ≤ from + 1 → rowsIn f from to ≡ only (f from) from
 rows-one f from to l m =
     ap (rowsFrom from (λ k. f (from + k))) (let e : to - from ≡ 1 = omega arith in e)
     ∙ rows-suc from (λ k. f (from + k)) 0

@@ -94,9 +94,9 @@ fn first_after(size: &[usize], count: usize, rows: &[usize]) -> usize
     first
 }
 
-// The first of the contexts from place i on that is not before row end, or their number. Most often no later tree has
-// a context of the role, so the last one is asked first.
-fn past_tree(rows: &[usize], i: usize, end: usize) -> usize
+// The first of the contexts from place i on that is not before row end, or their number. Where end is that of a tree,
+// most often no later tree has a context of the role, so the last one is asked first.
+pub fn past_tree(rows: &[usize], i: usize, end: usize) -> usize
     requires { ⌜ PlaceIn (now rows) i ⌝ }
     ensures { λ r. ⌜ PastTree (now (rows .entry)) i end r ⌝ }
 {
