@@ -21,6 +21,8 @@ const INSERTION: Edit = (ROWS - 1, 4, 1);
 const DELETION: Edit = (ROWS, 65, -64);
 /// Half of all rows go.
 const HALVING: Edit = (ROWS, 3_072, -2_048);
+/// The first of nine farms goes, row 0 and all.
+const FARM: Edit = (9 * 455, 455, -455);
 
 /// With fewer lists by turns the processor learns which of their pairs are dropped.
 const LISTS: usize = 16;
@@ -68,7 +70,7 @@ pub fn run(race: &Race) {
 }
 
 /// What is timed, with so many pairs.
-fn carries(pairs: usize) -> [(&'static str, Vec<Carry>); 4] {
+fn carries(pairs: usize) -> [(&'static str, Vec<Carry>); 5] {
     let desk = |rows: std::ops::Range<usize>| spread_pairs(pairs / 16, 16, rows);
     let halved = |list: usize| Carry::new(shuffled_pairs(list, pairs), HALVING);
     [
@@ -76,6 +78,7 @@ fn carries(pairs: usize) -> [(&'static str, Vec<Carry>); 4] {
         ("delete near the front, some pairs go", vec![Carry::new(desk(0..ROWS), DELETION)]),
         ("delete near the front, no pair goes", vec![Carry::new(desk(65..ROWS), DELETION)]),
         ("delete half the rows, half the pairs go", (0..LISTS).map(halved).collect()),
+        ("delete the first of nine farms", vec![Carry::new(desk(0..9 * 455), FARM)]),
     ]
 }
 

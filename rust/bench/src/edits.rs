@@ -1,12 +1,14 @@
-//! Edits of a plant of up to 4,096 rows.
+//! Edits of a plant of up to 4,096 rows, and of nine farms in one table.
 
 use crate::race::Race;
 use crate::report::Group;
-use crate::tables::{plant, scattered_key, Columns};
+use crate::tables::{farms, plant, scattered_key, Columns};
 
 /// The geometric mean of all edits against plain Rust with memmove, and the worst.
 const MEAN_BAR: f64 = 1.3;
 const WORST_BAR: f64 = 2.5;
+/// The deletion of a farm takes at most so many times what plain Rust takes.
+const FARM_BAR: f64 = 1.3;
 
 const ROWS: usize = 4_096;
 /// A blade of the first turbine: what is put under it goes near the front.
@@ -36,6 +38,12 @@ pub fn run(race: &Race) {
     let wanted = full.key[ROWS / 2];
     let times = race.time_edit(&full, |engine, table| engine.rename(table, wanted, 9));
     group.line("rename", times);
+    let nine = farms(9, 455);
+    for (which, farm) in [("first", 0), ("last", 8)] {
+        let root = nine.key[farm * 455];
+        let times = race.time_edit(&nine, |engine, table| engine.delete(table, root));
+        group.line_with_bar(&format!("delete the {which} of nine farms"), times, FARM_BAR);
+    }
     group.mean_and_worst(MEAN_BAR, WORST_BAR);
 }
 

@@ -2,16 +2,19 @@
 
 use crate::engine::Engine;
 use crate::race::Race;
-use crate::report::Group;
-use crate::steps::{desk_pairs, time, Step, ROWS};
-use crate::tables::{plant, Columns};
+use crate::report::{figure, Group};
+use crate::steps::{desk_pairs, spread_pairs, time, Step, ROWS};
+use crate::tables::{farms, plant, Columns};
 
 /// How often both tables are measured by turns; the least time counts.
 const TURNS: usize = 5;
+/// Twice the farms with twice the pairs take at most so many times the time.
+const FARMS_BAR: f64 = 2.3;
 
 pub fn run(race: &Race) {
     more_pairs(race);
     more_rows(race);
+    more_farms(race);
 }
 
 /// Half the roles of the desk, a quarter, an eighth: the pairs and the results shrink alike.
@@ -44,6 +47,30 @@ fn more_rows(race: &Race) {
         let verdict = if more <= bar { "PASS" } else { "OVER" };
         let name = format!("axis {axis}, of {:.0} microseconds", step[1]);
         println!("  {name:<42}{more:>10.2}{passes:>10.2}{bar:>10.2}  {verdict}");
+    }
+}
+
+/// Four farms with what 100 roles hold there, and the same a second time beside it, with 100 other
+/// roles: rows, pairs and results double.
+fn more_farms(race: &Race) {
+    println!();
+    println!("growth of the library's step, eight farms with 200 roles over four with 100");
+    let tables = [farms(4, 512), farms(8, 512)];
+    let once = spread_pairs(100, 20, 0..tables[0].count);
+    let again = once.iter().map(|&(role, row)| (role + 100, row + tables[0].count));
+    let mut steps = [once.clone(), once.iter().copied().chain(again).collect()].map(Step::new);
+    for axis in 1..=11 {
+        let mut least = [f64::INFINITY; 2];
+        for _ in 0..TURNS {
+            for ((table, step), least) in tables.iter().zip(&mut steps).zip(&mut least) {
+                *least = least.min(time(race, table, step.any_node(axis)).ours);
+            }
+        }
+        figure(
+            &format!("axis {axis}, of {:.0} microseconds", least[1]),
+            least[1] / least[0],
+            FARMS_BAR,
+        );
     }
 }
 

@@ -9,6 +9,7 @@ mod carries;
 mod checks;
 mod edits;
 mod engine;
+mod farms;
 mod growth;
 mod race;
 mod report;
@@ -32,6 +33,7 @@ fn race() {
     println!("each line takes about a tenth of a second");
     checks::run(&race);
     steps::run(&race);
+    farms::run(&race);
     growth::run(&race);
     edits::run(&race);
     carries::run(&race);

@@ -40,7 +40,7 @@ impl Step {
     }
 
     /// Asks for elements of a name that the axis can come to.
-    fn named(&mut self, axis: usize) -> &mut Step {
+    pub fn named(&mut self, axis: usize) -> &mut Step {
         let name = match axis {
             5 => 3,
             6 | 7 => 2,

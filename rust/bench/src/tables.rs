@@ -50,13 +50,21 @@ fn sizes(level: &[usize]) -> Vec<usize> {
 /// A plant: turbines of 64 rows, each with three blades, each with twenty setpoints. Names are
 /// 1 for the plant, 2 for a turbine, 3 for a blade and 4 for a setpoint.
 pub fn plant(rows: usize) -> Columns {
-    let level = |row: usize| match row.checked_sub(1).map(|row| row % 64) {
+    farms(1, rows)
+}
+
+/// So many plants in one table, each of so many rows.
+pub fn farms(farms: usize, rows: usize) -> Columns {
+    from_levels((0..farms * rows).map(|row| plant_level(row % rows)).collect())
+}
+
+fn plant_level(row: usize) -> usize {
+    match row.checked_sub(1).map(|row| row % 64) {
         None => 0,
         Some(0) => 1,
         Some(in_turbine) if in_turbine % 21 == 1 => 2,
         Some(_) => 3,
-    };
-    from_levels((0..rows).map(level).collect())
+    }
 }
 
 impl Columns {
