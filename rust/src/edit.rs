@@ -11,9 +11,11 @@ pub struct TableMut<'a> {
     pub key: &'a mut [usize],
     /// How many rows stand below each row.
     pub size: &'a mut [usize],
-    /// How deep each row stands: 0 for the root, at most 63.
+    /// How deep each row stands: 0 for a root, otherwise at most one more than the row before, and
+    /// at most 63.
     pub level: &'a mut [usize],
-    /// 0 document, 1 element, 2 text, 3 comment, 4 processing instruction.
+    /// 0 document, which only a root can be, 1 element, 2 text, 3 comment, 4 processing
+    /// instruction. Only documents and elements have rows below them.
     pub kind: &'a mut [usize],
     /// The name of an element or a processing instruction, otherwise 0.
     pub name: &'a mut [usize],
@@ -47,9 +49,12 @@ impl TableMut<'_> {
         }
     }
 
-    /// Makes a piece, which is a table of its own, the last child of the row with the key
-    /// `parent`. Levels of the piece rise to their new depth, sizes of the parent and its
+    /// Makes a piece, which is a table of its own with one tree, the last child of the row with the
+    /// key `parent`. Levels of the piece rise to their new depth, sizes of the parent and its
     /// ancestors by the piece's count, and later rows move down.
+    ///
+    /// What is inserted stands below a row, so this adds no root. A further farm comes in when its
+    /// rows are written behind the last one and the count is raised; the next call checks them.
     ///
     /// ```
     /// use reach::{Edited, Table, TableMut};
@@ -83,7 +88,7 @@ impl TableMut<'_> {
     }
 
     /// Deletes the row with the key and all rows below it; later rows close up, and the rows
-    /// that are freed at the end are zero.
+    /// that are freed at the end are zero. With its root a whole farm goes, but not the only one.
     ///
     /// ```
     /// use reach::{Edited, Refusal, TableMut};
@@ -99,6 +104,7 @@ impl TableMut<'_> {
     /// assert_eq!(table.delete(21), Ok(Edited { count: 2, first_moved_row: 3, moved: -2 }));
     /// assert_eq!(table.key, [20, 23, 0, 0]);
     /// assert_eq!(table.size, [1, 0, 0, 0]);
+    /// // Key 20 is the only root.
     /// assert_eq!(table.delete(20), Err(Refusal::DeletesRoot));
     /// ```
     ///

@@ -23,6 +23,45 @@
 //! assert_eq!(table.find(23), Ok(2));
 //! assert_eq!(table.find(24), Err(Refusal::UnknownKey));
 //! ```
+//!
+//! # Several farms
+//!
+//! Each row of level 0 starts a tree, so one table holds one farm or several: one call answers for
+//! all roles of all farms, a key is unlike every other key of any of them, and no step leaves the
+//! farm that it starts in. A farm goes with its root, and the grants are carried as over any edit.
+//!
+//! ```
+//! use reach::{Axis, Pairs, Refusal, Results, Stepped, TableMut, Test};
+//!
+//! // Two farms (name 1) of two turbines each (name 2).
+//! let mut farms = TableMut {
+//!     key: &mut [10, 20, 30, 50, 60, 70],
+//!     size: &mut [2, 0, 0, 2, 0, 0],
+//!     level: &mut [0, 1, 1, 0, 1, 1],
+//!     kind: &mut [1; 6],
+//!     name: &mut [1, 2, 2, 1, 2, 2],
+//!     count: 6,
+//! };
+//! // Role 5 holds the first turbine of both.
+//! let grants = Pairs { role: &[5, 5], row: &[1, 4] };
+//! let (mut role, mut row) = ([0; 4], [0; 4]);
+//!
+//! // What comes after them? In each farm its second turbine, and both grants count.
+//! let results = Results { role: &mut role, row: &mut row };
+//! let stepped = farms.as_table().step(grants, Axis::Following, Test::AnyNode, results)?;
+//! assert_eq!(stepped, Stepped { results: 2, kept: 2 });
+//! assert_eq!(row[..2], [2, 5]);
+//!
+//! // The first farm goes, and the grant on it. The other one now names row 1, still key 60.
+//! let deleted = farms.delete(10)?;
+//! let results = Results { role: &mut role, row: &mut row };
+//! assert_eq!(grants.carry(&deleted, results), Ok(1));
+//! assert_eq!((role[0], row[0], farms.key[1]), (5, 1, 60));
+//!
+//! // The last farm stays.
+//! assert_eq!(farms.delete(50), Err(Refusal::DeletesRoot));
+//! # Ok::<(), Refusal>(())
+//! ```
 
 pub mod boundary;
 mod carry;

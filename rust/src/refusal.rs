@@ -18,7 +18,7 @@ pub enum Refusal {
     /// 1: the count of rows is 0, above 4,096, or above the shortest table column. In a carry it is
     /// the count before the edit, and there is no table column.
     BadCount,
-    /// 2: a row is not sound.
+    /// 2: a row is not sound: see [`Table`](crate::Table).
     UnsoundRow {
         /// The least such row.
         row: usize,
@@ -46,7 +46,7 @@ pub enum Refusal {
     },
     /// 9: no row in use has the key.
     UnknownKey,
-    /// 10: the piece is not a sound table, or its first row is a document.
+    /// 10: the piece is not a sound table, or has several trees, or its first row is a document.
     BadPiece,
     /// 11: the row that was named as parent can't have children.
     NotAParent {
@@ -62,7 +62,7 @@ pub enum Refusal {
     },
     /// 14: the table has no room for the piece.
     NoRoom,
-    /// 15: the row to delete is row 0.
+    /// 15: the row to delete is the only root.
     DeletesRoot,
     /// 16: the row to rename has no name, or the new name is 0.
     BadRename {
@@ -70,7 +70,7 @@ pub enum Refusal {
         row: usize,
     },
     /// 17: no edit answers these numbers: the first moved row is 0 or above the old count, or falls
-    /// below 1 once the move is added, or the new count would lie outside 1 to 4,096.
+    /// below 0 once the move is added, or the new count would lie outside 1 to 4,096.
     BadMove,
 }
 
@@ -173,7 +173,7 @@ impl fmt::Display for Refusal {
             ),
             Refusal::UnknownKey => out.write_str("no row of the table has this key"),
             Refusal::BadPiece => out.write_str(
-                "the piece to insert is not a sound table, or it starts with a document",
+                "the piece to insert is not a sound table of one tree, or it starts with a document",
             ),
             Refusal::NotAParent { row } => write!(
                 out,
@@ -186,14 +186,16 @@ impl fmt::Display for Refusal {
             Refusal::NoRoom => out.write_str(
                 "the piece doesn't fit: the table would pass 4,096 rows or its shortest column",
             ),
-            Refusal::DeletesRoot => out.write_str("row 0, the root of the table, can't be deleted"),
+            Refusal::DeletesRoot => {
+                out.write_str("the only root of the table can't be deleted: no row would be left")
+            }
             Refusal::BadRename { row } => write!(
                 out,
                 "row {row} can't get this name: only elements and processing instructions have a name, other than 0"
             ),
             Refusal::BadMove => out.write_str(
                 "these numbers are not what an edit of this table answers: its first moved row is \
-                 1 to the old count, still at least 1 once the move is added, and the new count is \
+                 1 to the old count, still at least 0 once the move is added, and the new count is \
                  1 to 4,096",
             ),
         }

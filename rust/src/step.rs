@@ -28,11 +28,15 @@ pub struct Results<'a> {
 pub struct Stepped {
     /// The number of results.
     pub results: usize,
-    /// The number of distinct pairs that remain when redundant ones are dropped.
+    /// The number of distinct pairs that remain when redundant ones are dropped. A pair is redundant
+    /// when the same role holds, on axes 3 and 4, a row above it; on axes 6 and 7, a row below it.
+    /// On axes 8 and 9 one pair remains for each role and tree where it holds a row, on the other
+    /// axes all do. The test plays no part.
     pub kept: usize,
 }
 
-/// Which way a step goes from a row. A code of another number can be posed to
+/// Which way a step goes from a row. No axis leaves the tree of that row: what is before or after it
+/// in another farm is never a result. A code of another number can be posed to
 /// [`boundary::step`].
 #[derive(Clone, Copy, Debug, PartialEq, Eq, Hash)]
 pub enum Axis {
@@ -44,19 +48,19 @@ pub enum Axis {
     Descendant,
     /// 4: the row itself and the rows below it.
     DescendantOrSelf,
-    /// 5: its parent.
+    /// 5: its parent; a root has none.
     Parent,
     /// 6: its parent, the parent of that one, and so on.
     Ancestor,
     /// 7: the row itself and its ancestors.
     AncestorOrSelf,
-    /// 8: the rows after it that are not below it.
+    /// 8: the rows after it in its tree that are not below it.
     Following,
-    /// 9: the rows before it that are not its ancestors.
+    /// 9: the rows before it in its tree that are not its ancestors.
     Preceding,
-    /// 10: the later rows with the same parent.
+    /// 10: the later rows with the same parent; a root has no siblings.
     FollowingSibling,
-    /// 11: the earlier rows with the same parent.
+    /// 11: the earlier rows with the same parent; a root has no siblings.
     PrecedingSibling,
 }
 
@@ -100,7 +104,7 @@ pub enum Test {
     AnyInstruction,
     /// 6: the processing instructions of this name, which is not 0.
     Instruction(usize),
-    /// 7: the document.
+    /// 7: every document.
     Document,
 }
 

@@ -5,17 +5,20 @@ use crate::Refusal;
 
 /// A node table that is lent to be read: five columns, and how many rows are in use.
 ///
-/// Row numbers start from 0 and follow document order. A longer column has spare rows, which are
-/// never read.
+/// Row numbers start from 0 and follow document order. A row of level 0 is a root: it starts a tree,
+/// which goes on to the next root, so one table holds one farm or several. A longer column has spare
+/// rows, which are never read.
 #[derive(Clone, Copy, Debug, PartialEq, Eq)]
 pub struct Table<'a> {
     /// Each row's key: not 0, and no two rows have the same.
     pub key: &'a [usize],
     /// How many rows stand below each row.
     pub size: &'a [usize],
-    /// How deep each row stands: 0 for the root, at most 63.
+    /// How deep each row stands: 0 for a root, otherwise at most one more than the row before, and
+    /// at most 63.
     pub level: &'a [usize],
-    /// 0 document, 1 element, 2 text, 3 comment, 4 processing instruction.
+    /// 0 document, which only a root can be, 1 element, 2 text, 3 comment, 4 processing
+    /// instruction. Only documents and elements have rows below them.
     pub kind: &'a [usize],
     /// The name of an element or a processing instruction, otherwise 0.
     pub name: &'a [usize],
@@ -24,7 +27,8 @@ pub struct Table<'a> {
 }
 
 impl Table<'_> {
-    /// Checks that the table is sound.
+    /// Checks that the table is sound: that each row keeps to what its five columns say above, and
+    /// row 0 is a root. Every other call does the same first.
     ///
     /// ```
     /// use reach::{farm, Refusal, Table};
