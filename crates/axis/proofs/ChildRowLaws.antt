@@ -21,7 +21,7 @@ use Rattle.span.proofs.WroteLaws.{wrote-as}
 use Rattle.span.proofs.ScanLaws.{rows-cut, rows-skip, rows-one}
 use Rattle.span.proofs.SideLaws.{nests}
 use Rattle.axis.specs.Siblings.{childThat, ChildOrEnd, ChildrenIn}
-use Rattle.axis.proofs.HopLaws.{row-in-use, child-next, child-none}
+use Rattle.marks.proofs.HopLaws.{row-in-use, child-next, child-none}
 
 -- ── children that pass ──
 module _ (test : ℕ → Bool) (level : List ℕ) (p w : ℕ) where

@@ -28,10 +28,10 @@ use Rattle.span.proofs.ScanLaws.{rows-join, rows-same, part-length}
 use Rattle.span.proofs.RangeLaws.{contexts-rise, any-miss}
 use Rattle.span.proofs.SideLaws.{nests}
 use Rattle.axis.specs.Siblings.{LaterEnd}
-use Rattle.axis.proofs.MarkLaws.{any-append}
-use Rattle.axis.proofs.HopLaws.{in-under, child-within}
-use Rattle.axis.proofs.SiblingLaws.{later-on}
-use Rattle.axis.proofs.LaterLaws.{later-parent}
+use Rattle.marks.proofs.MarkLaws.{any-append}
+use Rattle.marks.proofs.HopLaws.{in-under, child-within}
+use Rattle.marks.proofs.SiblingLaws.{later-on}
+use Rattle.marks.proofs.LaterLaws.{later-parent}
 
 -- ── how far contexts reach ──
 module _ {size level : List ℕ} {n : ℕ} (s : Shape size level n) {c e : ℕ} (here : c < n)

@@ -24,7 +24,8 @@ use Rattle.axis.specs.Path.{onPath, pathRows, lonePath, PathIn, LoneIn}
 use Rattle.span.proofs.WantLaws.{fits-any}
 use Rattle.span.proofs.RangeLaws.{Covered, cover-start, cover-skip, cover-asks, cover-range, cover-done}
 use Rattle.axis.proofs.ClimbLaws.{parent-low, ancestor-path}
-use Rattle.axis.proofs.AncestorLaws.{axis-parent, axis-ancestor, axis-path}
+use Rattle.marks.proofs.ParentLaws.{axis-parent}
+use Rattle.axis.proofs.AncestorLaws.{axis-ancestor, axis-path}
 use Rattle.axis.proofs.PathLaws.{path-above-count, path-own-count}
 
 -- of one context, the rows on its axis

@@ -22,11 +22,11 @@ use Rattle.span.specs.Reach.{anyOn, oneRole, RoleIn, Parents, Wrote}
 use Rattle.span.proofs.WroteLaws.{wrote-as}
 use Rattle.span.proofs.ScanLaws.{rows-join, rows-same}
 use Rattle.span.proofs.RangeLaws.{contexts-rise, any-hit, any-miss, cover-start, cover-done}
-use Rattle.axis.specs.Mark.{childIn}
+use Rattle.marks.specs.Mark.{childIn}
 use Rattle.axis.specs.Siblings.{childThat, OneParent, ChildrenIn}
-use Rattle.axis.proofs.HopLaws.{ChildIn, child-in}
-use Rattle.axis.proofs.SiblingLaws.{later-on, on-later}
-use Rattle.axis.proofs.LaterLaws.{no-later, later-parent, later-row, later-from, later-first, later-same}
+use Rattle.marks.proofs.HopLaws.{ChildIn, child-in}
+use Rattle.marks.proofs.SiblingLaws.{later-on, on-later}
+use Rattle.marks.proofs.LaterLaws.{no-later, later-parent, later-row, later-from, later-first, later-same}
 
 module _ {size level kind name up : List ℕ} {n wk wn : ℕ} {cs out : List ℕ}
     (pre : RoleIn 10 size level kind name n wk wn cs out) (parents : Parents level n up) (one : OneParent up cs) where

@@ -1,5 +1,3 @@
-pub mod RowSet
-pub mod Mark
 pub mod Path
 pub mod Above
 pub mod Siblings

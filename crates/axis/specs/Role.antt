@@ -7,7 +7,7 @@ use lib.Dec.{eqb}
 use Rattle.tree.specs.Axis.{axisOk}
 use Rattle.span.specs.Reach.{oneRole, RoleIn, Wrote, Parents, Roots}
 use Rattle.span.specs.Want.{fits}
-use Rattle.axis.specs.RowSet.{Blank}
+use Rattle.marks.specs.RowSet.{Blank}
 
 -- the axes whose rows come out as ranges
 unfoldable pub rangedAxis : ℕ → Bool

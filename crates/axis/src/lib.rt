@@ -1,8 +1,5 @@
 // The rows of one role on one axis, from the role's own contexts: document 01, "The step", codes 1 to 11.
 
-mod row_set; // row_set.rt: a set of rows
-mod walk; // walk.rt: from sibling to sibling
-mod mark; // mark.rt: the axes whose rows are put into a set
 mod path; // path.rt: the way up from a lone context
 mod above; // above.rt: the ways up from contexts that ascend
 mod siblings; // siblings.rt: the later siblings, group by group

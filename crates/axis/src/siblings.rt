@@ -2,8 +2,8 @@
 // after it that lie before the end of its parent's descendants; there ends what the group reaches, and the next group
 // begins. Contexts of one parent reach what the first of them reaches, and those rows are written as they are met; what
 // the contexts of other groups reach goes through a set.
-use super::mark::mark_later_siblings;
-use super::row_set::drain;
+use marks::mark::mark_later_siblings;
+use marks::row_set::drain;
 use span::ranges::past_tree;
 use span::want::fits_row;
 ghost use mathlib.Core.Path.{_≡_};
@@ -15,7 +15,7 @@ ghost use Rattle.tree.specs.Rules.{Shape};
 ghost use Rattle.span.specs.Want.{fits};
 ghost use Rattle.span.specs.Range.{rowsIn, Appended};
 ghost use Rattle.span.specs.Reach.{oneRole, Contexts, RoleIn, Parents, Wrote};
-ghost use Rattle.axis.specs.RowSet.{Blank};
+ghost use Rattle.marks.specs.RowSet.{Blank};
 ghost use Rattle.axis.specs.Siblings.{childThat, OneParent, LaterEnd, ChildOrEnd, ChildrenIn};
 ghost use Rattle.axis.specs.Role.{RoleDone};
 

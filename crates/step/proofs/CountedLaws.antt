@@ -22,7 +22,7 @@ use Rattle.tree.proofs.SoundLaws.{sound-shape, next-passed, given-passed}
 use Rattle.tree.proofs.RoleLaws.{pair-passes}
 use Rattle.span.specs.Want.{wantedKind}
 use Rattle.span.specs.Reach.{oneRole}
-use Rattle.axis.specs.RowSet.{Blank}
+use Rattle.marks.specs.RowSet.{Blank}
 use Rattle.axis.specs.Role.{RoleAsk, RoleDone}
 use Rattle.step.specs.Runs.{pairsFrom, part, RunEnd}
 use Rattle.step.specs.Steps.{Steps}

@@ -11,10 +11,10 @@ use Rattle.tree.specs.Pairs.{pairsOf, withRole}
 use Rattle.tree.specs.Kept.{remaining, keptCount}
 use Rattle.tree.specs.StepRules.{PairsFit}
 use Rattle.tree.proofs.KeptLaws.{kept-split}
-use Rattle.step.specs.KeptOf.{keptOf, KeptIn}
+use Rattle.kept.specs.KeptOf.{keptOf, KeptIn}
 use Rattle.step.specs.Runs.{pairsFrom, part, RunEnd}
 use Rattle.step.proofs.RunLaws.{pairs-from-run, rest-above, run-contexts}
-use Rattle.step.proofs.KeptOfLaws.{kept-role, kept-most}
+use Rattle.kept.proofs.KeptOfLaws.{kept-role, kept-most}
 
 -- the pairs before place i are counted
 pub record Keeping (axis : ℕ) (level role row : List ℕ) (kept i : ℕ) : Type 0 where

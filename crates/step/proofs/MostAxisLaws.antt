@@ -22,8 +22,8 @@ use Rattle.tree.proofs.SoundLaws.{either, shape-descendants}
 use Rattle.tree.proofs.LevelLaws.{ancestors-count}
 use Rattle.span.specs.Reach.{Parents}
 use Rattle.step.specs.Most.{sumOf, onCount, spanOf, placeSpan, parentSpan, FewRows}
-use Rattle.axis.proofs.HopLaws.{child-within}
-use Rattle.axis.proofs.SiblingLaws.{later-on, earlier-on}
+use Rattle.marks.proofs.HopLaws.{child-within}
+use Rattle.marks.proofs.SiblingLaws.{later-on, earlier-on}
 use Rattle.step.proofs.GatherLaws.{gather-within, gather-either}
 use Rattle.step.proofs.SumLaws.{sum-less, sum-same}
 

@@ -12,7 +12,7 @@ use Rattle.tree.specs.Step.{Ask, stepList}
 use Rattle.tree.proofs.PairColumns.{length-roles, length-rows, roles-append, rows-append}
 use Rattle.span.specs.Want.{wantedKind}
 use Rattle.span.specs.Reach.{Wrote}
-use Rattle.axis.specs.RowSet.{Blank}
+use Rattle.marks.specs.RowSet.{Blank}
 use Rattle.axis.specs.Role.{RoleAsk, RoleDone}
 use Rattle.step.specs.Runs.{pairsFrom, part, RunEnd}
 use Rattle.step.specs.Steps.{Steps, Fits, Lists}

@@ -1,5 +1,4 @@
 pub mod Runs
 pub mod Steps
 pub mod Leaves
-pub mod KeptOf
 pub mod Most

@@ -1,6 +1,7 @@
 -- When an edit is accepted, in plain words: `insert-passes`, `delete-passes`, `rename-passes`, `edit-passes`.
--- Tests that fail, `neither`, `neither-of`; a search that finds nothing, `none-below`; a key that is not found,
--- `no-key`; a piece that may be inserted, `piece-ok`; the last check of a chain, `next-next`. Assumes nothing.
+-- Tests that fail, `neither`, `neither-of`, `not-second`; a search that finds nothing, `none-below`; a key that is not
+-- found, `no-key`; another root, `other-root`, or none, `no-other-root`, `only-root`; a piece that may be inserted,
+-- `piece-ok`; the last check of a chain, `next-next`. Assumes nothing.
 use mathlib.Core.Path.{_≡_, refl, sym, ap, _∙_}
 use mathlib.Core.Logic.{_⊎_, inl, inr, ⊎-elim, _↔_}
 use mathlib.Core.Bool.{Bool, true, false, not, _&&_, _||_, true≢false}
@@ -44,6 +45,10 @@ neither false b e = (refl, e)
 -- and back
 pub neither-of : {a b : Bool} → a ≡ false → b ≡ false → (a || b) ≡ false
 neither-of {a} {b} p q = ap (λ (x : Bool). x || b) p ∙ q
+
+-- where the one passes and not both, the other fails
+pub not-second : {a b : Bool} → a ≡ true → (a && b) ≡ false → b ≡ false
+not-second {a} {b} p e = sym (ap (λ (x : Bool). x && b) p) ∙ e
 
 -- a search comes to its end exactly if nothing passes
 pub none-below : (f : ℕ → Bool) (n : ℕ) → (ltb (least f n) n ≡ false) ↔ ((i : ℕ) → i < n → f i ≡ false)
@@ -180,14 +185,11 @@ unfolding deleteCheck
 delete-passes t r = (
   λ e. record {
     remains = λ z. other-root (t .level) (t .count) r .0
-        (not-false _ (second (eq-eqb (at (t .level) r) 0 z) (given-passed _ _ _ e)));
+        (not-false _ (not-second (eq-eqb (at (t .level) r) 0 z) (given-passed _ _ _ e)));
   },
   λ h. given-not _ _ (go (eqb (at (t .level) r) 0) refl h),
 )
   where
-    second : {a b : Bool} → a ≡ true → (a && b) ≡ false → b ≡ false
-    second {a} {b} p e = sym (ap (λ (x : Bool). x && b) p) ∙ e
-
     go : (b : Bool) → eqb (at (t .level) r) 0 ≡ b → DeleteFits t r
         → (b && not (otherRoot (t .level) (t .count) r)) ≡ false
     go true p h = ap not (other-root (t .level) (t .count) r .1 (h .remains (eqb-true _ _ p)))

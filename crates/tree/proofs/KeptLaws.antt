@@ -16,14 +16,10 @@ use Rattle.tree.specs.Tree.{ancestor, root, sameTree}
 use Rattle.tree.specs.Pairs.{Pair, pair, some}
 use Rattle.tree.specs.Kept.{drops, remaining, keptCount}
 use Rattle.tree.proofs.SoundLaws.{either}
-use Rattle.tree.proofs.AcceptLaws.{neither}
+use Rattle.tree.proofs.AcceptLaws.{neither, not-second}
 use Rattle.tree.proofs.StepLaws.{In, some-in}
 use Rattle.tree.proofs.LowestLaws.{lowest}
 use Rattle.tree.proofs.SplitLaws.{RolesBelow}
-
--- of two tests the first passes and not both, so not the second
-second : {a b : Bool} → a ≡ true → (a && b) ≡ false → b ≡ false
-second {a} {b} p e = sym (ap (λ (x : Bool). x && b) p) ∙ e
 
 -- each stands once
 abbrev pub Once : List Pair → Type 0
@@ -170,9 +166,9 @@ module _ (axis : ℕ) (level : List ℕ) where
   kept-same g ps p q i j e o =
       let a = kept-least g ps p .0 i in
       let b = kept-least g ps q .0 j in
-      let u : p .row ≤ q .row = ltb-false _ _ (second (eq-eqb (root level (p .row)) (root level (q .row)) o)
+      let u : p .row ≤ q .row = ltb-false _ _ (not-second (eq-eqb (root level (p .row)) (root level (q .row)) o)
       (a .1 (q .row) (subst (λ (r : ℕ). In (pair r (q .row)) ps) (sym e) (b .0)))) in
-      let v : q .row ≤ p .row = ltb-false _ _ (second (eq-eqb (root level (q .row)) (root level (p .row)) (sym o))
+      let v : q .row ≤ p .row = ltb-false _ _ (not-second (eq-eqb (root level (q .row)) (root level (p .row)) (sym o))
       (b .1 (p .row) (subst (λ (r : ℕ). In (pair r (p .row)) ps) e (a .0)))) in
       ap₂ pair e (le-antisymm u v)
 

@@ -9,7 +9,7 @@ use Rattle.tree.specs.Tree.{parent}
 use Rattle.tree.specs.Rules.{Shape}
 use Rattle.tree.proofs.SoundLaws.{shape-fits}
 use Rattle.span.specs.Reach.{Parents}
-use Rattle.axis.proofs.LaterLaws.{later-parent}
+use Rattle.marks.proofs.LaterLaws.{later-parent}
 use Rattle.axis.proofs.siblings.later_end.Statement.{statement}
 use Rattle.axis.proofs.siblings.later_end.Tie as tie
 

@@ -7,7 +7,7 @@ use native.Mathlib.Omega.{arith}
 use borrow.Author.Needs.{needs}
 use lib.ListN.{length}
 use Rattle.span.specs.Want.{fits}
-use Rattle.axis.specs.RowSet.{Blank}
+use Rattle.marks.specs.RowSet.{Blank}
 use Rattle.axis.proofs.GroupLaws.{Grouped, group-start, group-length, group-place, group-done}
 use Rattle.axis.proofs.GroupLaws.{group-less, group-some, group-asks, group-sum, group-turn}
 use Rattle.axis.proofs.siblings.later_siblings.Statement.{statement}

@@ -4,7 +4,7 @@ use native.Mathlib.Omega.{arith}
 use lib.ListN.{length, replicate, length-replicate}
 use Rattle.tree.specs.Table.{tableOf}
 use Rattle.tree.specs.Step.{askOf}
-use Rattle.axis.proofs.RowSetLaws.{blank-zeros}
+use Rattle.marks.proofs.RowSetLaws.{blank-zeros}
 use Rattle.step.proofs.CountedLaws.{Counted, pairs-fit, counted-none, counted-asks}
 use Rattle.step.proofs.CountedLaws.{counted-small, counted-more, counted-done}
 use borrow.Author.Needs.{needs}

@@ -6,7 +6,7 @@ use lib.ListN.{length, replicate}
 use Rattle.tree.specs.Table.{tableOf}
 use Rattle.tree.specs.Step.{askOf}
 use Rattle.tree.proofs.SoundLaws.{sound-shape}
-use Rattle.axis.proofs.RowSetLaws.{blank-zeros}
+use Rattle.marks.proofs.RowSetLaws.{blank-zeros}
 use Rattle.step.proofs.CountedLaws.{pairs-fit}
 use Rattle.step.proofs.WrittenLaws.{Written, written-none, written-roles, written-rows}
 use Rattle.step.proofs.WrittenLaws.{written-start, written-starts, written-asks, written-room}

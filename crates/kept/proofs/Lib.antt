@@ -1,0 +1,4 @@
+pub mod KeptOfLaws
+pub mod KeptOuterLaws
+pub mod KeptPassLaws
+pub mod KeptTreeLaws

@@ -1,0 +1,17 @@
+pub mod BitLaws
+pub mod LeftLaws
+pub mod RowSetLaws
+pub mod WordLaws
+pub mod DrainLaws
+pub mod MarkLaws
+pub mod OpenLaws
+pub mod RootedLaws
+pub mod AddWordLaws
+pub mod HopLaws
+pub mod WordChildLaws
+pub mod TurnLaws
+pub mod ChildLaws
+pub mod ParentLaws
+pub mod SiblingLaws
+pub mod LaterLaws
+pub mod EarlierLaws

@@ -1,0 +1,62 @@
+-- `marks::mark::earlier_siblings_of` meets its contract: the laws of the axis, over what `hop` leaves.
+-- Assumes nothing.
+use native.Mathlib.Omega.{arith}
+use borrow.Author.Needs.{needs}
+use Rattle.marks.proofs.TurnLaws.{turn-row, turn-root, turn-parent, parent-fits}
+use Rattle.marks.proofs.EarlierLaws.{earlier-asks, earlier-done, earlier-none}
+use Rattle.marks.proofs.mark.earlier_siblings_of.Statement.{statement}
+use Rattle.marks.proofs.mark.earlier_siblings_of.Tie as tie
+
+mul-c : tie.Need-mul-c
+mul-c c = search needs
+
+shared-slice-read-c : tie.Need-shared-slice-read-c
+shared-slice-read-c c = search needs
+
+mul-q : tie.Need-mul-q
+mul-q c =
+    let t = c .before .before .before .before .pre .0 in
+    omega (arith, turn-row t, t .shape .few)
+
+element-copy-out-q : tie.Need-element-copy-out-q
+element-copy-out-q c =
+    let t = c .before .before .before .before .pre .0 in
+    omega (arith, turn-row t, t .shape .few)
+
+returns : tie.Need-returns
+returns c =
+    let h = c .before .before .before .before .before .before .pre in
+    earlier-none (h .0) (turn-root (h .0) (h .1) (c .if1 .taken))
+
+sub-p : tie.Need-sub-p
+sub-p c = search needs
+
+add-hop : tie.Need-add-hop
+add-hop c =
+    let h = c .before .before .before .before .before .before .pre in
+    let t = h .0 in
+    omega (arith, parent-fits t _ (turn-parent t (h .1) (c .if1 .left)))
+
+hop-requires : tie.Need-hop-requires
+hop-requires c κs =
+    let h = c .before .before .before .before .before .before .before .pre in
+    earlier-asks (h .0) _ (turn-parent (h .0) (h .1) (c .before .if1 .left))
+
+returns-2 : tie.Need-returns-2
+returns-2 c =
+    let h = c .before .before .before .before .before .before .before .before .pre in
+    earlier-done (h .0) _ (turn-parent (h .0) (h .1) (c .before .before .if1 .left)) (c .hop .ensures)
+
+pub earlier-siblings-of-spec : {M : Type 1} → statement M
+earlier-siblings-of-spec =
+    tie.close
+    (tie.spec
+    mul-c
+    shared-slice-read-c
+    mul-q
+    element-copy-out-q
+    returns
+    sub-p
+    add-hop
+    hop-requires
+    returns-2)

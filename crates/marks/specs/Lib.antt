@@ -1,0 +1,2 @@
+pub mod RowSet
+pub mod Mark
