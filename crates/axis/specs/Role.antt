@@ -17,9 +17,9 @@ rangedAxis axis = eqb axis 1 || (eqb axis 3 || (eqb axis 4 || (eqb axis 8 || eqb
 unfoldable pub aboveAxis : ℕ → Bool
 aboveAxis axis = eqb axis 6 || eqb axis 7
 
--- the axes whose rows are all put into a set first
+-- the axes whose rows are put into a set first
 unfoldable pub markedAxis : ℕ → Bool
-markedAxis axis = eqb axis 2 || (eqb axis 5 || eqb axis 11)
+markedAxis axis = eqb axis 2 || (eqb axis 5 || (eqb axis 10 || eqb axis 11))
 
 -- the axes that follow parents
 unfoldable pub climbsAxis : ℕ → Bool

@@ -2,5 +2,5 @@
 
 mod path; // path.rt: the way up from a lone context
 mod above; // above.rt: the ways up from contexts that ascend
-mod siblings; // siblings.rt: the later siblings, group by group
 pub mod role; // role.rt: one role on any axis
+pub mod siblings; // siblings.rt: the later siblings, group by group

@@ -10,7 +10,6 @@ ghost use Rattle.axis.specs.Role.{rangedAxis, aboveAxis, markedAxis, cli
 ghost use Rattle.axis.specs.Role.{RoleAsk, RoleDone};
 use super::above;
 use super::path;
-use super::siblings;
 use marks::mark;
 use marks::row_set;
 use span::ranges;
@@ -137,6 +136,7 @@ fn marked(
     match axis {
         2 => mark::mark_children(size, level, count, rows, words),
         5 => mark::mark_parents(size, level, up, count, rows, words),
+        10 => mark::mark_later_siblings(size, level, up, count, rows, words),
         _ => mark::mark_earlier_siblings(size, level, up, count, rows, words),
     }
 }
@@ -175,6 +175,7 @@ pub fn up_for(axis: usize, size: &[usize], level: &[usize], count: usize, up: &m
 }
 
 // The rows that one role reaches, written to the front of out; answers how many. The set is empty before and after.
+// For following-sibling `siblings::later_siblings` is faster.
 pub fn one_role(
     axis: usize,
     size: &[usize],
@@ -207,21 +208,6 @@ pub fn one_role(
             rows,
             want_kind,
             want_name,
-            out,
-        );
-    }
-    if axis == 10 {
-        return siblings::later_siblings(
-            size,
-            level,
-            kind,
-            name,
-            up,
-            count,
-            rows,
-            want_kind,
-            want_name,
-            words,
             out,
         );
     }

@@ -1,9 +1,8 @@
 // Following-sibling: the later siblings of the contexts of one role, group by group. A group is a context and those
 // after it that lie before the end of its parent's descendants; there ends what the group reaches, and the next group
 // begins. Contexts of one parent reach what the first of them reaches, and those rows are written as they are met; what
-// the contexts of other groups reach goes through a set.
-use marks::mark::mark_later_siblings;
-use marks::row_set::drain;
+// the contexts of other groups reach goes through the set of `one_role`.
+use super::role::one_role;
 use span::ranges::past_tree;
 use span::want::fits_row;
 ghost use mathlib.Core.Path.{_≡_};
@@ -210,8 +209,20 @@ fn group_siblings(
             out,
         );
     }
-    let used = mark_later_siblings(size, level, up, count, rows, words);
-    drain(kind, name, count, want_kind, want_name, words, used, out)
+    one_role(
+        10,
+        size,
+        level,
+        kind,
+        name,
+        up,
+        count,
+        rows,
+        want_kind,
+        want_name,
+        words,
+        out,
+    )
 }
 
 // The end of the rows that context c reaches.
@@ -228,7 +239,7 @@ fn later_end(size: &[usize], level: &[usize], up: &[usize; 4096], count: usize, 
 
 // Axis 10: writes the later siblings of the contexts of one role that fit to the front of out; answers how many. The
 // set is empty before and after.
-pub(crate) fn later_siblings(
+pub fn later_siblings(
     size: &[usize],
     level: &[usize],
     kind: &[usize],

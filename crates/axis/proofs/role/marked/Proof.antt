@@ -15,6 +15,12 @@ mark-parents-requires c κs =
     let pre = c .before .before .before .before .before .pre .1 in
     (pre .0, pre .1 (ap climbsAxis (c .before .match .keys2)))
 
+mark-later-siblings-requires : tie.Need-mark-later-siblings-requires
+unfolding climbsAxis
+mark-later-siblings-requires c κs =
+    let pre = c .before .before .before .before .before .pre .1 in
+    (pre .0, pre .1 (ap climbsAxis (c .before .match .keys3)))
+
 mark-earlier-siblings-requires : tie.Need-mark-earlier-siblings-requires
 unfolding climbsAxis
 mark-earlier-siblings-requires c κs =
@@ -23,7 +29,7 @@ mark-earlier-siblings-requires c κs =
       pre .1 .0,
       pre .1 .1
           (ap climbsAxis (marked-last _ (pre .0)
-          (other .0 .1) (other .1))),
+          (other .0 .0 .1) (other .0 .1) (other .1))),
     )
 
 returns : tie.Need-returns
@@ -33,10 +39,13 @@ returns-2 : tie.Need-returns-2
 returns-2 c = marked-as (c .before .before .match .keys2) (c .mark-parents .ensures)
 
 returns-3 : tie.Need-returns-3
-returns-3 c =
+returns-3 c = marked-as (c .before .before .match .keys3) (c .mark-later-siblings .ensures)
+
+returns-4 : tie.Need-returns-4
+returns-4 c =
     let other = c .before .before .match .rest in
     marked-as (marked-last _ (c .before .before .before .before .before .before .pre .0)
-    (other .0 .1) (other .1))
+    (other .0 .0 .1) (other .0 .1) (other .1))
     (c .mark-earlier-siblings .ensures)
 
 pub marked-spec : {M : Type 1} → statement M
@@ -45,7 +54,9 @@ marked-spec =
     (tie.spec
     mark-children-requires
     mark-parents-requires
+    mark-later-siblings-requires
     mark-earlier-siblings-requires
     returns
     returns-2
-    returns-3)
+    returns-3
+    returns-4)

@@ -1,7 +1,9 @@
--- `axis::siblings::group_siblings` meets its contract: what the set holds is what the contexts reach. Assumes nothing.
+-- `axis::siblings::group_siblings` meets its contract. Assumes nothing.
+use mathlib.Core.Path.{refl}
+use native.Mathlib.Omega.{arith}
 use borrow.Author.Needs.{needs}
-use Rattle.span.proofs.WroteLaws.{wrote-as}
-use Rattle.axis.proofs.RoleAxisLaws.{marked-rows, marked-drains}
+use Rattle.tree.specs.Axis.{axisOk}
+use Rattle.axis.proofs.RoleAxisLaws.{siblings-climb, climbs-aside}
 use Rattle.axis.proofs.siblings.group_siblings.Statement.{statement}
 use Rattle.axis.proofs.siblings.group_siblings.Tie as tie
 
@@ -24,28 +26,25 @@ same-length c = search needs
 returns : tie.Need-returns
 returns c = search needs
 
-mark-later-siblings-requires : tie.Need-mark-later-siblings-requires
-mark-later-siblings-requires c κs = search needs
-
-drain-requires : tie.Need-drain-requires
-drain-requires c κs =
-    let marks = c .before .before in
-    let pre = start (marks .before .before .before) .pre in
-    marked-drains (marks .mark-later-siblings .ensures) (pre .0 .shape .few) (pre .0)
+one-role-requires : tie.Need-one-role-requires
+unfolding axisOk
+one-role-requires c κs =
+    let pre = start (c .before .before .before) .pre in
+    record {
+      known = refl;
+      asks = pre .0;
+      links = record {
+        parents = λ _. pre .1 .1;
+        roots = λ e. absurd (climbs-aside 10 (siblings-climb _ (omega arith) (omega arith)) e);
+      };
+      blank = pre .1 .2;
+    }
 
 same-length-2 : tie.Need-same-length-2
 same-length-2 c = search needs
 
 returns-2 : tie.Need-returns-2
-returns-2 c =
-    let marks = c .before .before .before .before .before in
-    let pre = start (marks .before .before .before) .pre in
-    record {
-      wrote =
-          wrote-as (marked-rows (marks .mark-later-siblings .ensures) (pre .0 .shape .few) _)
-          (c .before .before .drain .ensures .wrote);
-      blank = c .before .before .drain .ensures .blank;
-    }
+returns-2 c = search needs
 
 pub group-siblings-spec : {M : Type 1} → statement M
 group-siblings-spec =
@@ -55,7 +54,6 @@ group-siblings-spec =
     siblings-of-first-requires
     same-length
     returns
-    mark-later-siblings-requires
-    drain-requires
+    one-role-requires
     same-length-2
     returns-2)

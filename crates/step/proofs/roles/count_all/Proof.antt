@@ -32,25 +32,25 @@ loop-holds c =
 run-end-requires : tie.Need-run-end-requires Inv-loop μ-loop
 run-end-requires c κs = search needs
 
-mul-one-role : tie.Need-mul-one-role Inv-loop μ-loop
-mul-one-role c = search needs
+mul-counted-role : tie.Need-mul-counted-role Inv-loop μ-loop
+mul-counted-role c = search needs
 
-sub-one-role : tie.Need-sub-one-role Inv-loop μ-loop
-sub-one-role c = search needs
+sub-counted-role : tie.Need-sub-counted-role Inv-loop μ-loop
+sub-counted-role c = search needs
 
-part-one-role-start : tie.Need-part-one-role-start Inv-loop μ-loop
-part-one-role-start c = search needs
+part-counted-role-start : tie.Need-part-counted-role-start Inv-loop μ-loop
+part-counted-role-start c = search needs
 
-part-one-role-end : tie.Need-part-one-role-end Inv-loop μ-loop
-part-one-role-end c =
+part-counted-role-end : tie.Need-part-counted-role-end Inv-loop μ-loop
+part-counted-role-end c =
     let start = c .before .before .before .before .before .before .before .before .before .before .before in
     omega (arith, c .run-end .ensures .within, pairs-fit _ _ _ _ _ (start .pre) .even)
 
-slice-aggregate-one-role : tie.Need-slice-aggregate-one-role Inv-loop μ-loop
-slice-aggregate-one-role c = search needs
+slice-aggregate-counted-role : tie.Need-slice-aggregate-counted-role Inv-loop μ-loop
+slice-aggregate-counted-role c = search needs
 
-one-role-requires : tie.Need-one-role-requires Inv-loop μ-loop
-one-role-requires c κs =
+counted-role-requires : tie.Need-counted-role-requires Inv-loop μ-loop
+counted-role-requires c κs =
     let turn = c .before .before .before in
     let head = turn .before .before in
     let start = head .before .before .before .before .before .before .before .before .before in
@@ -62,7 +62,7 @@ add-total c =
     let turn = c .before .before .before .before .before in
     let head = turn .before .before in
     let start = head .before .before .before .before .before .before .before .before .before in
-    let done = rw (head .before .wanted-kind .ensures) at (c .before .one-role .ensures) in
+    let done = rw (head .before .wanted-kind .ensures) at (c .before .counted-role .ensures) in
     let small = counted-small _ _ _ _ _ (start .pre) (head .loop .inv) (turn .run-end .ensures) done in
     omega (arith, head .loop .inv .small, head .loop .inv .within, pairs-fit _ _ _ _ _ (start .pre) .few)
 
@@ -76,7 +76,7 @@ loop-again c =
     let turn = c .before .before .before .before .before in
     let head = turn .before .before in
     let start = head .before .before .before .before .before .before .before .before .before in
-    let done = rw (head .before .wanted-kind .ensures) at (c .before .one-role .ensures) in
+    let done = rw (head .before .wanted-kind .ensures) at (c .before .counted-role .ensures) in
     counted-more _ _ _ _ _ (start .pre) (head .loop .inv) (turn .run-end .ensures) done
 
 returns : tie.Need-returns Inv-loop μ-loop
@@ -93,12 +93,12 @@ count-all-spec =
     wanted-kind-requires
     loop-holds
     run-end-requires
-    mul-one-role
-    sub-one-role
-    part-one-role-start
-    part-one-role-end
-    slice-aggregate-one-role
-    one-role-requires
+    mul-counted-role
+    sub-counted-role
+    part-counted-role-start
+    part-counted-role-end
+    slice-aggregate-counted-role
+    counted-role-requires
     add-total
     loop-less
     loop-again

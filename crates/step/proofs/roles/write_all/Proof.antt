@@ -82,31 +82,31 @@ add-kept c =
       pairs-fit _ _ _ _ _ (start .pre .0) .few,
     )
 
-mul-one-role : tie.Need-mul-one-role Inv-loop μ-loop
-mul-one-role c = search needs
+mul-written-role : tie.Need-mul-written-role Inv-loop μ-loop
+mul-written-role c = search needs
 
-sub-one-role : tie.Need-sub-one-role Inv-loop μ-loop
-sub-one-role c = search needs
+sub-written-role : tie.Need-sub-written-role Inv-loop μ-loop
+sub-written-role c = search needs
 
-part-one-role-start : tie.Need-part-one-role-start Inv-loop μ-loop
-part-one-role-start c = search needs
+part-written-role-start : tie.Need-part-written-role-start Inv-loop μ-loop
+part-written-role-start c = search needs
 
-part-one-role-end : tie.Need-part-one-role-end Inv-loop μ-loop
-part-one-role-end c =
+part-written-role-end : tie.Need-part-written-role-end Inv-loop μ-loop
+part-written-role-end c =
     let turn = c .before .before in
     let head = turn .before .before in
     let start = head .before .before .before .before .before .before .before .before .before .before .before in
     omega (arith, turn .run-end .ensures .within, pairs-fit _ _ _ _ _ (start .pre .0) .even)
 
-mul-one-role-2 : tie.Need-mul-one-role-2 Inv-loop μ-loop
-mul-one-role-2 c =
+mul-written-role-2 : tie.Need-mul-written-role-2 Inv-loop μ-loop
+mul-written-role-2 c =
     let turn = c .before .before .before .before in
     let head = turn .before .before in
     let start = head .before .before .before .before .before .before .before .before .before .before .before in
     omega (arith, head .loop .inv .0 .small, turn .before .loop-test .taken, pairs-fit _ _ _ _ _ (start .pre .0) .few)
 
-sub-one-role-2 : tie.Need-sub-one-role-2 Inv-loop μ-loop
-sub-one-role-2 c =
+sub-written-role-2 : tie.Need-sub-written-role-2 Inv-loop μ-loop
+sub-written-role-2 c =
     let turn = c .before .before .before .before in
     let head = turn .before .before in
     let start = head .before .before .before .before .before .before .before .before .before .before .before in
@@ -115,8 +115,8 @@ sub-one-role-2 c =
       written-start _ _ _ _ _ _ _ (start .pre .0) (start .pre .1) (head .loop .inv .0) (turn .run-end .ensures),
     )
 
-part-one-role-start-2 : tie.Need-part-one-role-start-2 Inv-loop μ-loop
-part-one-role-start-2 c =
+part-written-role-start-2 : tie.Need-part-written-role-start-2 Inv-loop μ-loop
+part-written-role-start-2 c =
     let turn = c .before .before .before .before in
     let head = turn .before .before in
     let start = head .before .before .before .before .before .before .before .before .before .before .before in
@@ -125,11 +125,11 @@ part-one-role-start-2 c =
       written-start _ _ _ _ _ _ _ (start .pre .0) (start .pre .1) (head .loop .inv .0) (turn .run-end .ensures),
     )
 
-part-one-role-end-2 : tie.Need-part-one-role-end-2 Inv-loop μ-loop
-part-one-role-end-2 c = search needs
+part-written-role-end-2 : tie.Need-part-written-role-end-2 Inv-loop μ-loop
+part-written-role-end-2 c = search needs
 
-one-role-requires : tie.Need-one-role-requires Inv-loop μ-loop
-one-role-requires c κs =
+written-role-requires : tie.Need-written-role-requires Inv-loop μ-loop
+written-role-requires c κs =
     let turn = c .before .before .before .before .before in
     let head = turn .before .before in
     let start = head .before .before .before .before .before .before .before .before .before .before .before in
@@ -181,7 +181,7 @@ fill-requires c κs =
     let turn = c .before .before .before .before .before .before .before .before .before .before in
     let head = turn .before .before in
     let start = head .before .before .before .before .before .before .before .before .before .before .before in
-    let done = rw (head .before .wanted-kind .ensures) at (c .before .before .before .before .one-role .ensures) in
+    let done = rw (head .before .wanted-kind .ensures) at (c .before .before .before .before .written-role .ensures) in
     written-room _ _ _ _ _ _ _ (start .pre .0) (start .pre .1) (head .loop .inv .0) (turn .run-end .ensures) done
 
 add-m : tie.Need-add-m Inv-loop μ-loop
@@ -190,7 +190,7 @@ add-m c =
     let turn = ran .before .before .before .before .before .before in
     let head = turn .before .before in
     let start = head .before .before .before .before .before .before .before .before .before .before .before in
-    let done = rw (head .before .wanted-kind .ensures) at (ran .one-role .ensures) in
+    let done = rw (head .before .wanted-kind .ensures) at (ran .written-role .ensures) in
     omega (
       arith,
       written-step _ _ _ _ _ _ _ (start .pre .0) (start .pre .1) (head .loop .inv .0) (turn .run-end .ensures) done,
@@ -211,7 +211,7 @@ loop-again c =
     let turn = ran .before .before .before .before .before .before in
     let head = turn .before .before in
     let start = head .before .before .before .before .before .before .before .before .before .before .before in
-    let done = rw (head .before .wanted-kind .ensures) at (ran .one-role .ensures) in (
+    let done = rw (head .before .wanted-kind .ensures) at (ran .written-role .ensures) in (
       written-more _ _ _ _ _ _ _ (start .pre .0) (start .pre .1) (head .loop .inv .0) (turn .run-end .ensures) done
           (c .before .before .fill .ensures),
       keeping-more _ _ _ _ _ _ (sound-shape _ (start .pre .0 .sound)) (pairs-fit _ _ _ _ _ (start .pre .0))
@@ -255,15 +255,15 @@ write-all-spec =
     part-kept-of-end
     kept-of-requires
     add-kept
-    mul-one-role
-    sub-one-role
-    part-one-role-start
-    part-one-role-end
-    mul-one-role-2
-    sub-one-role-2
-    part-one-role-start-2
-    part-one-role-end-2
-    one-role-requires
+    mul-written-role
+    sub-written-role
+    part-written-role-start
+    part-written-role-end
+    mul-written-role-2
+    sub-written-role-2
+    part-written-role-start-2
+    part-written-role-end-2
+    written-role-requires
     mul-fill
     sub-fill
     part-fill-start
