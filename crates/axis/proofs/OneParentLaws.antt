@@ -5,6 +5,7 @@ use Prim.Native.Nat.{ℕ, suc, _+_, _-_, _<_, _≤_}
 use mathlib.Core.Path.{_≡_, refl, sym, ap, ap₂, _∙_}
 use mathlib.Core.Bool.{Bool, true, false, _&&_, and-true, true≢false}
 use mathlib.Core.List.{List, _++_}
+use native.Mathlib.Nat.{le-refl}
 use native.Mathlib.Omega.{arith}
 use borrow.Author.Tests.{lt-ltb, le-leb}
 use lib.Dec.{eqb}
@@ -17,9 +18,10 @@ use Rattle.tree.proofs.SearchLaws.{gather-zero, gather-skip}
 use Rattle.tree.proofs.SoundLaws.{shape-fits, both-of}
 use Rattle.tree.proofs.AxisLaws.{false-of}
 use Rattle.span.specs.Want.{fits}
-use Rattle.span.specs.Range.{rowsIn}
+use Rattle.span.specs.Range.{rowsIn, Appended}
 use Rattle.span.specs.Reach.{anyOn, oneRole, RoleIn, Parents, Wrote}
 use Rattle.span.proofs.WroteLaws.{wrote-as}
+use Rattle.span.proofs.AppendedLaws.{appended-front}
 use Rattle.span.proofs.ScanLaws.{rows-join, rows-same}
 use Rattle.span.proofs.RangeLaws.{contexts-rise, any-hit, any-miss, cover-start, cover-done}
 use Rattle.marks.specs.Mark.{childIn}
@@ -114,9 +116,14 @@ module _ {size level kind name up : List ℕ} {n wk wn : ℕ} {cs out : List ℕ
         ∙ gather-zero reached)
         (rows-same reached (childThat test level p) A E inside)
 
-    pub first-asks : ChildrenIn size level kind name n (at up (at cs 0) - 1) (at cs 0 + at size (at cs 0) + 1) wk wn
-        out 0
-    first-asks = record {
+    -- the end of the parent's descendants, as a row, and from the parent's place
+    pub first-end : (at up (at cs 0) - 1 + at size (at up (at cs 0) - 1) < n)
+        × (at up (at cs 0) + at size (at up (at cs 0) - 1) ≡ at up (at cs 0) - 1 + at size (at up (at cs 0) - 1) + 1)
+    first-end = (omega (arith, end-in), omega arith)
+
+    pub first-asks : {e : ℕ} → e ≡ at up (at cs 0) + at size (at up (at cs 0) - 1)
+        → ChildrenIn size level kind name n (at up (at cs 0) - 1) (at cs 0 + at size (at cs 0) + 1) e wk wn out 0
+    first-asks {e} q = rw (q ∙ first-end .1) record {
       shape = pre .shape;
       row = later-parent (pre .shape) C p first-row is-parent;
       from = record {
@@ -124,11 +131,15 @@ module _ {size level kind name up : List ℕ} {n wk wn : ℕ} {cs out : List ℕ
         last = later-from (pre .shape) C p first-row is-parent;
         child = later-first (pre .shape) C p first-row is-parent;
       };
+      to = record { after = omega arith; last = le-refl E; child = λ l. absurd (omega arith) };
+      order = later-from (pre .shape) C p first-row is-parent;
       in-kind = pre .in-kind;
       in-name = pre .in-name;
       room = omega (arith, ap length first-rows, pre .room);
     }
 
-    pub first-done : {r : ℕ} {new : List ℕ} → Wrote (rowsIn (childThat test level p) A E) out r new
+    pub first-done : {e r : ℕ} {new : List ℕ} → e ≡ at up (at cs 0) + at size (at up (at cs 0) - 1)
+        → Appended (rowsIn (childThat test level p) A e) out 0 r new
         → Wrote (oneRole 10 level n (fits wk wn kind name) cs) out r new
-    first-done w = wrote-as (sym first-rows) w
+    first-done q w = wrote-as
+        (ap (rowsIn (childThat test level p) A) (q ∙ first-end .1) ∙ sym first-rows) (appended-front w)

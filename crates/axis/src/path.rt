@@ -8,7 +8,7 @@ use tree::logic::both;
 use tree::logic::either;
 
 // Whether there is one context, and its parent is asked for, or all its ancestors, with itself or without.
-pub(crate) fn is_lone(axis: usize, contexts: usize, want_kind: usize, want_name: usize) -> bool
+pub fn is_lone(axis: usize, contexts: usize, want_kind: usize, want_name: usize) -> bool
     ensures { λ r. ⌜ r ≡ lonePath axis contexts «want_kind» «want_name» ⌝ }
 {
     both(
@@ -50,7 +50,7 @@ fn write_path(
 
 // Writes the rows that the one context reaches to the front of out; answers how many. A row has as many ancestors as
 // its level says.
-pub(crate) fn lone_rows(
+pub fn lone_rows(
     axis: usize,
     size: &[usize],
     level: &[usize],

@@ -9,7 +9,6 @@ ghost use Rattle.marks.specs.Mark.{Zeros};
 ghost use Rattle.axis.specs.Role.{rangedAxis, aboveAxis, markedAxis, climbsAxis, sideAxis, UpFor};
 ghost use Rattle.axis.specs.Role.{RoleAsk, RoleDone};
 use super::above;
-use super::path;
 use marks::mark;
 use marks::row_set;
 use span::ranges;
@@ -175,7 +174,8 @@ pub fn up_for(axis: usize, size: &[usize], level: &[usize], count: usize, up: &m
 }
 
 // The rows that one role reaches, written to the front of out; answers how many. The set is empty before and after.
-// For following-sibling `siblings::later_siblings` is faster.
+// Faster are `path::lone_rows` where `path::is_lone` holds, `earlier::rising_rows` where `earlier::is_rising` does, and
+// `later::later_siblings` on following-sibling.
 pub fn one_role(
     axis: usize,
     size: &[usize],
@@ -201,21 +201,6 @@ pub fn one_role(
             axis,
             level,
             size,
-            kind,
-            name,
-            up,
-            count,
-            rows,
-            want_kind,
-            want_name,
-            out,
-        );
-    }
-    if path::is_lone(axis, rows.len(), want_kind, want_name) {
-        return path::lone_rows(
-            axis,
-            size,
-            level,
             kind,
             name,
             up,

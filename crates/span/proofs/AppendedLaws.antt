@@ -1,5 +1,5 @@
--- A result column that grows from a place on: `appended-..`; `wrote-appended` joins it to what the column begins with.
--- Assumes nothing.
+-- A result column that grows from a place on: `appended-..`, twice `appended-then`; `wrote-appended` joins it to what the
+-- column begins with, and `appended-front` is that itself. Assumes nothing.
 use mathlib.Core.Path.{_≡_, sym, ap, ap₂, subst, _∙_}
 use mathlib.Core.List.{List, [], _∷_, _++_, append-assoc}
 use Prim.Native.Nat.{ℕ, suc, _+_, _<_, _≤_}
@@ -65,6 +65,43 @@ wrote-appended {xs} {ys} {d} {out} {new} {m} h a =
           ∙ ap (λ (c : List ℕ). xs ++ (ys ++ c)) (drop-drop (length ys) (length xs) d ∙ ap (λ (k : ℕ). drop k d) l)
           ∙ sym (append-assoc xs ys (drop (length (xs ++ ys)) d));
     }
+
+-- appended at the front: what the column begins with
+pub appended-front : {xs d new : List ℕ} {r : ℕ} → Appended xs d 0 r new → Wrote xs d r new
+appended-front h = record { many = omega (arith, h .many); holds = h .holds }
+
+-- ── twice ──
+module _ (d : List ℕ) (p : ℕ) (l : p ≤ length d) where
+  -- the part before the place has its length
+  before : (xs : List ℕ) → p + length xs ≡ length (take p d ++ xs)
+  before xs = simp (length-append, length-take) (omega arith)
+
+  -- appended at a place: the column begins with what was before it, and then that
+  begins : {xs new : List ℕ} {r : ℕ} → Appended xs d p r new → Wrote (take p d ++ xs) d r new
+  unfolding overwritten
+  begins {xs} h = record {
+    many = h .many ∙ before xs;
+    holds = h .holds
+        ∙ sym (append-assoc (take p d) xs (drop (length xs) (drop p d)))
+        ∙ ap (λ (o : List ℕ). (take p d ++ xs) ++ o)
+        (drop-drop (length xs) p d ∙ ap (λ (k : ℕ). drop k d) (before xs));
+  }
+
+  ends : {xs new : List ℕ} {r : ℕ} → Wrote (take p d ++ xs) d r new → Appended xs d p r new
+  unfolding overwritten
+  ends {xs} h = record {
+    many = h .many ∙ sym (before xs);
+    holds = h .holds
+        ∙ ap (λ (o : List ℕ). (take p d ++ xs) ++ o)
+        (ap (λ (k : ℕ). drop k d) (sym (before xs)) ∙ sym (drop-drop (length xs) p d))
+        ∙ append-assoc (take p d) xs (drop (length xs) (drop p d));
+  }
+
+-- what is appended after what was appended
+pub appended-then : {xs ys d out new : List ℕ} {p m r : ℕ} → p ≤ length d → Appended xs d p m out
+    → Appended ys out m r new → Appended (xs ++ ys) d p r new
+appended-then {xs} {ys} {d} {new = new} {p} {r = r} l g h = ends d p l
+    (subst (λ (zs : List ℕ). Wrote zs d r new) (append-assoc (take p d) xs ys) (wrote-appended (begins d p l g) h))
 
 -- two answers that a contract of this kind allows are equal, and so are the columns
 pub appended-only : {xs old : List ℕ} {place r s : ℕ} {a b : List ℕ} → Appended xs old place r a

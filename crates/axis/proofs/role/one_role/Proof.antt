@@ -3,7 +3,6 @@
 use mathlib.Core.Path.{sym, _∙_}
 use native.Mathlib.Omega.{arith}
 use Rattle.span.proofs.WroteLaws.{wrote-as}
-use Rattle.axis.proofs.LoneLaws.{lone-climbs}
 use Rattle.axis.proofs.RoleAxisLaws.{role-as, wrote-axis, above-own}
 use Rattle.axis.proofs.RoleAxisLaws.{marked-rest, marked-rows, marked-drains}
 use borrow.Author.Needs.{needs}
@@ -32,14 +31,17 @@ same-length c = search needs
 returns : tie.Need-returns
 returns c = search needs
 
-is-lone-requires : tie.Need-is-lone-requires
-is-lone-requires c κs = search needs
+is-above-requires : tie.Need-is-above-requires
+is-above-requires c κs = search needs
 
-lone-rows-requires : tie.Need-lone-rows-requires
-lone-rows-requires c κs =
+sub-rows-above : tie.Need-sub-rows-above
+sub-rows-above c = omega (arith, above-own _ (sym (c .before .is-above .ensures) ∙ c .if2 .taken) .1)
+
+rows-above-requires : tie.Need-rows-above-requires
+rows-above-requires c κs =
     let pre = start (c .before .before .before) .pre in
-    let lone = sym (c .before .before .is-lone .ensures) ∙ c .before .if2 .taken in
-    record { lone = lone; asks = pre .asks; parents = pre .links .parents (lone-climbs _ _ _ _ lone) }
+    let own = above-own _ (sym (c .before .before .is-above .ensures) ∙ c .before .if2 .taken) in
+    ((own .0, role-as (sym (own .1)) (pre .asks)), pre .links .parents (own .2))
 
 same-length-2 : tie.Need-same-length-2
 same-length-2 c = search needs
@@ -47,59 +49,36 @@ same-length-2 c = search needs
 returns-2 : tie.Need-returns-2
 returns-2 c =
     let call = c .before .before in
-    record {
-      wrote = call .lone-rows .ensures;
-      blank = start (call .before .before .before .before) .pre .blank;
-    }
-
-is-above-requires : tie.Need-is-above-requires
-is-above-requires c κs = search needs
-
-sub-rows-above : tie.Need-sub-rows-above
-sub-rows-above c = omega (arith, above-own _ (sym (c .before .is-above .ensures) ∙ c .if3 .taken) .1)
-
-rows-above-requires : tie.Need-rows-above-requires
-rows-above-requires c κs =
-    let pre = start (c .before .before .before .before .before) .pre in
-    let own = above-own _ (sym (c .before .before .is-above .ensures) ∙ c .before .if3 .taken) in
-    ((own .0, role-as (sym (own .1)) (pre .asks)), pre .links .parents (own .2))
-
-same-length-3 : tie.Need-same-length-3
-same-length-3 c = search needs
-
-returns-3 : tie.Need-returns-3
-returns-3 c =
-    let call = c .before .before in
     let asked = call .before .before in
-    let own = above-own _ (sym (asked .before .is-above .ensures) ∙ asked .if3 .taken) in
+    let own = above-own _ (sym (asked .before .is-above .ensures) ∙ asked .if2 .taken) in
     record {
       wrote = wrote-axis _ _ _ _ (sym (own .1)) (call .rows-above .ensures);
-      blank = start (asked .before .before .before .before) .pre .blank;
+      blank = start (asked .before .before) .pre .blank;
     }
 
 marked-requires : tie.Need-marked-requires
 marked-requires c κs =
     let next = c .before in
-    let other = next .before .before .before .before in
+    let other = next .before .before in
     let pre = start other .pre in (
       marked-rest _ (pre .known) (sym (other .before .is-ranged .ensures) ∙ other .if1 .left)
-          (sym (next .before .is-above .ensures) ∙ next .if3 .left),
+          (sym (next .before .is-above .ensures) ∙ next .if2 .left),
       (record { shape = pre .asks .shape; contexts = pre .asks .contexts; blank = pre .blank }, pre .links .parents),
     )
 
 drain-requires : tie.Need-drain-requires
 drain-requires c κs =
     let marks = c .before .before in
-    let pre = start (marks .before .before .before .before .before .before) .pre in
+    let pre = start (marks .before .before .before .before) .pre in
     marked-drains (marks .marked .ensures) (pre .asks .shape .few) (pre .asks)
 
-same-length-4 : tie.Need-same-length-4
-same-length-4 c = search needs
+same-length-3 : tie.Need-same-length-3
+same-length-3 c = search needs
 
-returns-4 : tie.Need-returns-4
-returns-4 c =
+returns-3 : tie.Need-returns-3
+returns-3 c =
     let marks = c .before .before .before .before .before in
-    let pre = start (marks .before .before .before .before .before .before) .pre in
+    let pre = start (marks .before .before .before .before) .pre in
     record {
       wrote =
           wrote-as (marked-rows (marks .marked .ensures) (pre .asks .shape .few) _)
@@ -115,16 +94,12 @@ one-role-spec =
     ranged-requires
     same-length
     returns
-    is-lone-requires
-    lone-rows-requires
-    same-length-2
-    returns-2
     is-above-requires
     sub-rows-above
     rows-above-requires
-    same-length-3
-    returns-3
+    same-length-2
+    returns-2
     marked-requires
     drain-requires
-    same-length-4
-    returns-4)
+    same-length-3
+    returns-3)

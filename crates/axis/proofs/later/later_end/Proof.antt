@@ -1,4 +1,4 @@
--- `axis::siblings::later_end` meets its contract: the column has the context's parent. Assumes nothing.
+-- `axis::later::later_end` meets its contract: the column has the context's parent. Assumes nothing.
 use Prim.Native.Nat.{ℕ, suc, _+_, _-_, _<_}
 use mathlib.Core.Path.{_≡_, refl, ap, _∙_}
 use mathlib.Core.List.{List}
@@ -10,8 +10,8 @@ use Rattle.tree.specs.Rules.{Shape}
 use Rattle.tree.proofs.SoundLaws.{shape-fits}
 use Rattle.span.specs.Reach.{Parents}
 use Rattle.marks.proofs.LaterLaws.{later-parent}
-use Rattle.axis.proofs.siblings.later_end.Statement.{statement}
-use Rattle.axis.proofs.siblings.later_end.Tie as tie
+use Rattle.axis.proofs.later.later_end.Statement.{statement}
+use Rattle.axis.proofs.later.later_end.Tie as tie
 
 -- the parent, where there is one, and its descendants are rows in use
 parent-in : {size level up : List ℕ} {n c : ℕ} → Shape size level n → Parents level n up → c < n → (at up c ≡ 0 → ⊥)

@@ -1,4 +1,4 @@
--- `axis::siblings::later_siblings` meets its contract. The loop's invariant: what the contexts before place i reach is
+-- `axis::later::later_siblings` meets its contract. The loop's invariant: what the contexts before place i reach is
 -- written, what the others reach comes after it, and the set is empty. Assumes nothing.
 use Prim.Native.Nat.{_-_, _≤_}
 use mathlib.Core.Path.{_≡_}
@@ -10,8 +10,8 @@ use Rattle.span.specs.Want.{fits}
 use Rattle.marks.specs.RowSet.{Blank}
 use Rattle.axis.proofs.GroupLaws.{Grouped, group-start, group-length, group-place, group-done}
 use Rattle.axis.proofs.GroupLaws.{group-less, group-some, group-asks, group-sum, group-turn}
-use Rattle.axis.proofs.siblings.later_siblings.Statement.{statement}
-use Rattle.axis.proofs.siblings.later_siblings.Tie as tie
+use Rattle.axis.proofs.later.later_siblings.Statement.{statement}
+use Rattle.axis.proofs.later.later_siblings.Tie as tie
 
 abbrev Inv-loop : tie.InvT-loop
 Inv-loop size level kind name up count rows want-kind want-name words₀ out₀ next₀ i₀ words out next i =

@@ -1,4 +1,4 @@
--- `axis::siblings::have_one_parent` meets its contract. The loop's invariant: the contexts before place k have the
+-- `axis::later::have_one_parent` meets its contract. The loop's invariant: the contexts before place k have the
 -- parent of the first. Assumes nothing.
 use Prim.Native.Nat.{ℕ, _-_, _<_, _≤_}
 use mathlib.Core.Path.{_≡_, ap}
@@ -8,8 +8,8 @@ use borrow.Author.Count.{below-more}
 use borrow.Author.Needs.{needs}
 use lib.ListN.{length}
 use Rattle.tree.specs.Table.{at}
-use Rattle.axis.proofs.siblings.have_one_parent.Statement.{statement}
-use Rattle.axis.proofs.siblings.have_one_parent.Tie as tie
+use Rattle.axis.proofs.later.have_one_parent.Statement.{statement}
+use Rattle.axis.proofs.later.have_one_parent.Tie as tie
 
 abbrev Inv-loop : tie.InvT-loop
 Inv-loop up count rows first q k₀ k =

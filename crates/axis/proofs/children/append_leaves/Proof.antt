@@ -1,4 +1,4 @@
--- `axis::siblings::append_leaves` meets its contract. The loop's invariant: the children before row w that fit are
+-- `axis::children::append_leaves` meets its contract. The loop's invariant: the children before row w that fit are
 -- appended, and w is not before the row at which it began. Assumes nothing.
 use Prim.Native.Nat.{ℕ, _+_, _-_, _<_}
 use mathlib.Core.Path.{_≡_, refl, sym, _∙_}
@@ -9,59 +9,54 @@ use Rattle.tree.specs.Table.{at}
 use Rattle.tree.proofs.SoundLaws.{shape-fits}
 use Rattle.span.specs.Want.{fits}
 use Rattle.axis.proofs.ChildRowLaws.{Walked, walk-row, walk-start, walk-length, walk-place, walk-no, walk-yes}
-use Rattle.axis.proofs.siblings.append_leaves.Statement.{statement}
-use Rattle.axis.proofs.siblings.append_leaves.Tie as tie
+use Rattle.axis.proofs.children.append_leaves.Statement.{statement}
+use Rattle.axis.proofs.children.append_leaves.Tie as tie
 
 abbrev Inv-loop : tie.InvT-loop
-Inv-loop size level kind name count p end row want-kind want-name out₀ place w₀ next₀ out w next =
-    Walked size level (fits want-kind want-name kind name) p row out₀ place out w next
+Inv-loop size level kind name count p row end want-kind want-name out₀ place w₀ next₀ out w next =
+    Walked size level (fits want-kind want-name kind name) p row end out₀ place out w next
 
 abbrev μ-loop : tie.MeasureT-loop
-μ-loop size level kind name count p end row want-kind want-name out₀ place w₀ next₀ out w next = end - w
+μ-loop size level kind name count p row end want-kind want-name out₀ place w₀ next₀ out w next = end - w
 
 -- the entry
 abbrev head : tie.At-loop Inv-loop μ-loop → tie.Start Inv-loop μ-loop
 head s = s .before .before .before .before .before .before
 
--- row w is before the end of the descendants of p
-before-end : (c : tie.In-loop Inv-loop μ-loop) → (let a = head (c .before) .args in
-    c .before .loop .w < a .p + at (a .size .now) (a .p) + 1)
-before-end c = omega (arith, c .loop-test .taken, head (c .before) .pre .0)
-
 -- out keeps its length
 whole : (s : tie.At-loop Inv-loop μ-loop) → length (s .loop .out) ≡ length (head s .args .out .now)
-whole s = walk-length (head s .pre .2) (s .loop .inv)
+whole s = walk-length (head s .pre .1) (s .loop .inv)
 
 -- at a row that fits there is room for it
 free : (c : tie.Then1 Inv-loop μ-loop) → (let s = c .before .before .before in s .loop .next < length (s .loop .out))
 free c =
     let t = c .before in
     let s = t .before .before in
-    walk-place (head s .pre .2) (s .loop .inv) (before-end (t .before)) (sym (t .fits-row .ensures) ∙ c .if1 .taken)
+    walk-place (head s .pre .1) (s .loop .inv) (t .before .loop-test .taken) (sym (t .fits-row .ensures) ∙ c .if1 .taken)
 
 -- past row w, whether it fits or not
 past : (c : tie.Joined1 Inv-loop μ-loop) (r : ℕ) → (let s = c .before .before .before in let a = head s .args in
     r ≡ s .loop .w + at (a .size .now) (s .loop .w) + 1
     → Walked (a .size .now) (a .level .now) (fits (a .want-kind) (a .want-name) (a .kind .now) (a .name .now)) (a .p)
-    (a .row) (a .out .now) (a .place) (c .if1 .out) r (c .if1 .next))
+    (a .row) (a .end) (a .out .now) (a .place) (c .if1 .out) r (c .if1 .next))
 past c r e =
     let t = c .before in
     let s = t .before .before in
-    let l = before-end (t .before) in
+    let l = t .before .loop-test .taken in
     ⊎-elim
     (λ w. rw (w .1, w .2)
-    (walk-yes (head s .pre .2) (s .loop .inv) l (sym (t .fits-row .ensures) ∙ w .0 .taken) e))
+    (walk-yes (head s .pre .1) (s .loop .inv) l (sym (t .fits-row .ensures) ∙ w .0 .taken) e))
     (λ w. rw (w .1, w .2)
-    (walk-no (head s .pre .2) (s .loop .inv) l (sym (t .fits-row .ensures) ∙ w .0 .left) e))
+    (walk-no (head s .pre .1) (s .loop .inv) l (sym (t .fits-row .ensures) ∙ w .0 .left) e))
     (c .if1 .came)
 
 loop-holds : tie.Need-loop-holds Inv-loop μ-loop
-loop-holds c = walk-start (c .before .before .before .before .before .pre .2)
+loop-holds c = walk-start (c .before .before .before .before .before .pre .1)
 
 fits-row-requires : tie.Need-fits-row-requires Inv-loop μ-loop
 fits-row-requires c κs =
-    let h = head (c .before) .pre .2 in
-    let l = walk-row h (c .before .loop .w) (before-end c) in
+    let h = head (c .before) .pre .1 in
+    let l = walk-row h (c .before .loop .w) (c .loop-test .taken) in
     (omega (arith, l, h .in-kind), omega (arith, l, h .in-name))
 
 mul-out : tie.Need-mul-out Inv-loop μ-loop
@@ -76,14 +71,14 @@ add-next c = let p = free c in let w = whole (c .before .before .before) in omeg
 mul-below : tie.Need-mul-below Inv-loop μ-loop
 mul-below c =
     let t = c .before .before in
-    let h = head (t .before) .pre .2 in
-    omega (arith, walk-row h (t .before .loop .w) (before-end t), h .shape .few)
+    let h = head (t .before) .pre .1 in
+    omega (arith, walk-row h (t .before .loop .w) (t .loop-test .taken), h .shape .few)
 
 shared-slice-read-below : tie.Need-shared-slice-read-below Inv-loop μ-loop
 shared-slice-read-below c =
     let t = c .before .before .before in
-    let h = head (t .before) .pre .2 in
-    omega (arith, walk-row h (t .before .loop .w) (before-end t), h .shape .in-size)
+    let h = head (t .before) .pre .1 in
+    omega (arith, walk-row h (t .before .loop .w) (t .loop-test .taken), h .shape .in-size)
 
 add-w : tie.Need-add-w Inv-loop μ-loop
 add-w c =
@@ -94,15 +89,15 @@ add-t23 : tie.Need-add-t23 Inv-loop μ-loop
 add-t23 c =
     let j = c .before .before in
     let t = j .before .before in
-    let h = head (t .before) .pre .2 in
-    let l = walk-row h (t .before .loop .w) (before-end t) in
+    let h = head (t .before) .pre .1 in
+    let l = walk-row h (t .before .loop .w) (t .loop-test .taken) in
     omega (arith, shape-fits (h .shape) (t .before .loop .w) l, h .shape .few)
 
 same-length : tie.Need-same-length Inv-loop μ-loop
 same-length c =
     let j = c .before .before in
     let s = j .before .before .before in
-    walk-length (head s .pre .2) (past j _ refl)
+    walk-length (head s .pre .1) (past j _ refl)
 
 returns : tie.Need-returns Inv-loop μ-loop
 returns c =
@@ -112,7 +107,7 @@ returns c =
     let size = head s .args .size .now in
     let r : v + 1 + at size v ≡ v + at size v + 1 = omega arith in
     let w = past j _ r in
-    (omega (arith, s .loop .inv .low), w .here, w .appends)
+    (omega (arith, s .loop .inv .low), w .high, w .here, w .appends)
 
 loop-less : tie.Need-loop-less Inv-loop μ-loop
 loop-less c = omega (arith, c .before .before .before .before .loop-test .taken)
@@ -132,7 +127,7 @@ same-length-2 c = whole (c .before)
 returns-2 : tie.Need-returns-2 Inv-loop μ-loop
 returns-2 c =
     let s = c .before in
-    (omega (arith, c .loop-test .left, head s .pre .1), s .loop .inv .here, s .loop .inv .appends)
+    (omega (arith, c .loop-test .left, head s .pre .0), s .loop .inv .high, s .loop .inv .here, s .loop .inv .appends)
 
 pub append-leaves-spec : {M : Type 1} → statement M
 append-leaves-spec =

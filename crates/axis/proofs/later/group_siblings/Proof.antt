@@ -1,11 +1,11 @@
--- `axis::siblings::group_siblings` meets its contract. Assumes nothing.
+-- `axis::later::group_siblings` meets its contract. Assumes nothing.
 use mathlib.Core.Path.{refl}
 use native.Mathlib.Omega.{arith}
 use borrow.Author.Needs.{needs}
 use Rattle.tree.specs.Axis.{axisOk}
 use Rattle.axis.proofs.RoleAxisLaws.{siblings-climb, climbs-aside}
-use Rattle.axis.proofs.siblings.group_siblings.Statement.{statement}
-use Rattle.axis.proofs.siblings.group_siblings.Tie as tie
+use Rattle.axis.proofs.later.group_siblings.Statement.{statement}
+use Rattle.axis.proofs.later.group_siblings.Tie as tie
 
 -- where the function begins, from where the parents are compared
 abbrev start : tie.After-have-one-parent → tie.Start
