@@ -4,7 +4,7 @@
 use super::children::append_children;
 use tree::logic::greater;
 ghost use mathlib.Core.Path.{_≡_};
-ghost use mathlib.Core.Bool.{true};
+ghost use mathlib.Core.Bool.{true, false};
 ghost use Prim.Native.Nat.{_≤_};
 ghost use Rattle.span.specs.Want.{fits};
 ghost use Rattle.span.specs.Range.{Appended};
@@ -15,7 +15,8 @@ ghost use Rattle.axis.specs.Siblings.{earlierFrom, EarlierIn, ParentsRis
 // counts as the first.
 pub fn is_rising(axis: usize, up: &[usize; 4096], count: usize, rows: &[usize]) -> bool
     requires { ⌜ (count ≤ 4096) × Contexts (now rows) count ⌝ }
-    ensures { λ r. ⌜ (r ≡ true → (axis ≡ 11) × ParentsRise (now (up .entry)) (now (rows .entry))) ⌝ }
+    ensures { λ r. ⌜ (r ≡ true → (axis ≡ 11) × ParentsRise (now (up .entry)) (now (rows .entry)))
+        × (r ≡ false → axis ≡ 11 → ParentsRise (now (up .entry)) (now (rows .entry)) → ⊥) ⌝ }
 {
     if axis != 11 {
         return false;

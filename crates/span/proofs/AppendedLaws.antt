@@ -1,5 +1,5 @@
--- A result column that grows from a place on: `appended-..`, twice `appended-then`; `wrote-appended` joins it to what the
--- column begins with, and `appended-front` is that itself. Assumes nothing.
+-- A result column that grows from a place on: `appended-..`, twice `appended-then`; `wrote-appended` joins it to what
+-- the column begins with, and `appended-front` is that itself. Assumes nothing.
 use mathlib.Core.Path.{_≡_, sym, ap, ap₂, subst, _∙_}
 use mathlib.Core.List.{List, [], _∷_, _++_, append-assoc}
 use Prim.Native.Nat.{ℕ, suc, _+_, _<_, _≤_}

@@ -2,7 +2,6 @@
 ghost use mathlib.Core.Path.{_≡_};
 ghost use Prim.Native.Nat.{_-_, _<_, _≤_};
 ghost use lib.ListN.{length};
-ghost use Rattle.tree.specs.Table.{at};
 ghost use Rattle.span.specs.Want.{fits};
 ghost use Rattle.span.specs.Reach.{oneRole, RoleIn, Roots, Wrote};
 ghost use Rattle.span.specs.Range.{EndsIn, firstAfter, PlaceIn, PastTree, Nests, Ended};

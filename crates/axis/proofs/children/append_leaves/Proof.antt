@@ -32,7 +32,8 @@ free : (c : tie.Then1 Inv-loop μ-loop) → (let s = c .before .before .before i
 free c =
     let t = c .before in
     let s = t .before .before in
-    walk-place (head s .pre .1) (s .loop .inv) (t .before .loop-test .taken) (sym (t .fits-row .ensures) ∙ c .if1 .taken)
+    walk-place (head s .pre .1) (s .loop .inv) (t .before .loop-test .taken)
+    (sym (t .fits-row .ensures) ∙ c .if1 .taken)
 
 -- past row w, whether it fits or not
 past : (c : tie.Joined1 Inv-loop μ-loop) (r : ℕ) → (let s = c .before .before .before in let a = head s .args in

@@ -1,7 +1,8 @@
--- `axis::earlier::is_rising` meets its contract. The loop's invariant: the parents of the contexts before place k do
--- not fall, and are not after the last of them. Assumes nothing.
-use Prim.Native.Nat.{ℕ, _-_, _<_, _≤_}
-use mathlib.Core.Bool.{false≢true}
+-- `axis::earlier::is_rising` meets its contract. The loop's invariant: the parents of the contexts before place k do not
+-- fall, and the last of them is not before any. Assumes nothing.
+use Prim.Native.Nat.{ℕ, _+_, _-_, _<_, _≤_}
+use mathlib.Core.Path.{_≡_, ap}
+use mathlib.Core.Bool.{false≢true, true≢false}
 use native.Mathlib.Nat.{not-suc-le-zero}
 use native.Mathlib.Omega.{arith}
 use borrow.Author.Count.{below-more}
@@ -16,6 +17,7 @@ Inv-loop axis up count rows last₀ k₀ last k =
     (k ≤ length rows)
     × ((i : ℕ) → i < k → (j : ℕ) → j < i → at up (at rows j) ≤ at up (at rows i))
     × ((j : ℕ) → j < k → at up (at rows j) ≤ last)
+    × (0 < last → (0 < k) × (last ≡ at up (at rows (k - 1))))
 
 abbrev μ-loop : tie.MeasureT-loop
 μ-loop axis up count rows last₀ k₀ last k = length rows - k
@@ -31,10 +33,15 @@ inside c =
     omega (arith, h .1 .inside (c .before .loop .k) (c .loop-test .taken), h .0)
 
 returns : tie.Need-returns Inv-loop μ-loop
-returns c = λ e. absurd (false≢true e)
+returns c = (λ e. absurd (false≢true e), λ e is order. c .if1 .taken is)
 
 loop-holds : tie.Need-loop-holds Inv-loop μ-loop
-loop-holds c = (omega arith, λ i l. absurd (not-suc-le-zero l), λ j l. absurd (not-suc-le-zero l))
+loop-holds c = (
+  omega arith,
+  λ i l. absurd (not-suc-le-zero l),
+  λ j l. absurd (not-suc-le-zero l),
+  λ l. absurd (not-suc-le-zero l),
+)
 
 mul-c : tie.Need-mul-c Inv-loop μ-loop
 mul-c c = search needs
@@ -49,7 +56,15 @@ element-copy-out-q : tie.Need-element-copy-out-q Inv-loop μ-loop
 element-copy-out-q c = inside (c .before)
 
 returns-2 : tie.Need-returns-2 Inv-loop μ-loop
-returns-2 c = λ e. absurd (false≢true e)
+returns-2 c =
+    let t = c .before .before .before in
+    let s = t .before in
+    let last = s .loop .inv .3 (omega (arith, c .if2 .taken)) in (
+      λ e. absurd (false≢true e),
+      λ e is order.
+          let k : s .loop .k - 1 < s .loop .k = omega (arith, last .0) in
+          omega (arith, c .if2 .taken, last .1, order .rise (s .loop .k - 1) (s .loop .k) k (t .loop-test .taken)),
+    )
 
 add-k : tie.Need-add-k Inv-loop μ-loop
 add-k c = search needs
@@ -70,12 +85,16 @@ loop-again c =
           (λ j l. omega (arith, inv .2 j l, c .if2 .left)),
       below-more (λ (j : ℕ). at up (at rows j) ≤ at up (at rows (s .loop .k))) (s .loop .k)
           (λ j l. omega (arith, inv .2 j l, c .if2 .left)) (omega arith),
+      λ l. (omega arith, ap (λ (j : ℕ). at up (at rows j)) (let e : s .loop .k ≡ s .loop .k + 1 - 1 = omega arith in e)),
     )
 
 returns-3 : tie.Need-returns-3 Inv-loop μ-loop
-returns-3 c = λ e. (
-  c .before .before .if1 .left,
-  record { rise = λ j k l m. c .before .loop .inv .1 k (omega (arith, c .loop-test .left)) j l },
+returns-3 c = (
+  λ e. (
+    c .before .before .if1 .left,
+    record { rise = λ j k l m. c .before .loop .inv .1 k (omega (arith, c .loop-test .left)) j l },
+  ),
+  λ e. absurd (true≢false e),
 )
 
 pub is-rising-spec : {M : Type 1} → statement M

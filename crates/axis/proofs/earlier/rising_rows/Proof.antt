@@ -1,7 +1,6 @@
 -- `axis::earlier::rising_rows` meets its contract. The invariant, `Risen`: the rows reached below the floor, which is
 -- the last context passed, are written. Assumes nothing.
 use Prim.Native.Nat.{_-_}
-use native.Mathlib.Omega.{arith}
 use borrow.Author.Needs.{needs}
 use lib.ListN.{length}
 use Rattle.span.specs.Want.{fits}

@@ -2,8 +2,9 @@
 -- role asks, and write the same rows. Assumes nothing.
 use mathlib.Core.Path.{sym, _∙_}
 use native.Mathlib.Omega.{arith}
-use Rattle.axis.proofs.RoleAxisLaws.{siblings-climb, lone-asks, rising-asks, direct-done, climb-asks, done-as, wrote-axis}
 use borrow.Author.Needs.{needs}
+use Rattle.axis.proofs.RoleAxisLaws.{siblings-climb, lone-asks, climb-asks, rising-asks, direct-done}
+use Rattle.axis.proofs.RoleAxisLaws.{done-as, wrote-axis}
 use Rattle.step.proofs.roles.counted_role.Statement.{statement}
 use Rattle.step.proofs.roles.counted_role.Tie as tie
 
@@ -48,7 +49,7 @@ is-rising-requires c κs =
 rising-rows-requires : tie.Need-rising-rows-requires
 rising-rows-requires c κs =
     let asked = c .before .before in
-    let rising = asked .is-rising .ensures (c .before .if3 .taken) in
+    let rising = asked .is-rising .ensures .0 (c .before .if3 .taken) in
     rising-asks (start (asked .before .before .before) .pre) (rising .0) (rising .1)
 
 same-length-3 : tie.Need-same-length-3
@@ -58,7 +59,7 @@ returns-3 : tie.Need-returns-3
 returns-3 c =
     let call = c .before .before in
     let asked = call .before .before .before in
-    let rising = asked .is-rising .ensures (call .before .before .if3 .taken) in
+    let rising = asked .is-rising .ensures .0 (call .before .before .if3 .taken) in
     direct-done (start (asked .before .before .before) .pre)
     (wrote-axis _ _ _ _ (rising .0) (call .rising-rows .ensures))
 
