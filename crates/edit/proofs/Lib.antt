@@ -1,5 +1,1 @@
-pub mod OutcomeLaws
-pub mod DeleteLaws
-pub mod PieceLaws
-pub mod InsertLaws
-pub mod LeavesLaws
+pub mod KeyOutcomeLaws

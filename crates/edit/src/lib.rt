@@ -2,12 +2,10 @@
 // the row of its key and hands over to the edit at that row; a refusal leaves all columns as they were.
 ghost use Rattle.tree.specs.Table.{tableOf};
 ghost use Rattle.tree.specs.Outcome.{insertOutcome, deleteOutcome, renameOutcome};
-ghost use Rattle.edit.specs.Leaves.{Leaves};
-
-pub mod renaming; // renaming.rt: a rename at a row
-pub mod deletion; // deletion.rt: a deletion at a row
-pub mod insertion; // insertion.rt: an insertion at a row
-
+ghost use Rattle.edit_at.specs.Leaves.{Leaves};
+use edit_at::deletion;
+use edit_at::insertion;
+use edit_at::renaming;
 use tree::Checked;
 use tree::Edited;
 use tree::Found;

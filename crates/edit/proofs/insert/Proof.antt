@@ -5,7 +5,8 @@ use Rattle.tree.specs.Table.{Table, tableOf}
 use Rattle.tree.specs.Outcome.{checkOutcome, located, insertOutcome}
 use Rattle.tree.specs.declared.Checked.the-variants.{Passed}
 use Rattle.tree.specs.declared.Found.the-variants.{At}
-use Rattle.edit.proofs.OutcomeLaws.{leaves, table-refused, key-refused, insert-found, passed-key, known}
+use Rattle.edit_at.proofs.OutcomeLaws.{leaves}
+use Rattle.edit.proofs.KeyOutcomeLaws.{table-refused, key-refused, insert-found, passed-key, known}
 use borrow.Author.Needs.{needs}
 use Rattle.edit.proofs.insert.Statement.{statement}
 use Rattle.edit.proofs.insert.Tie as tie

@@ -1,0 +1,5 @@
+pub mod OutcomeLaws
+pub mod DeleteLaws
+pub mod PieceLaws
+pub mod InsertLaws
+pub mod LeavesLaws
