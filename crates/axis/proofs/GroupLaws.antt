@@ -27,7 +27,7 @@ use Rattle.span.proofs.WroteLaws.{wrote-as, wrote-none, wrote-length, wrote-par
 use Rattle.span.proofs.ScanLaws.{rows-join, rows-same, part-length}
 use Rattle.span.proofs.RangeLaws.{contexts-rise, any-miss}
 use Rattle.span.proofs.SideLaws.{nests}
-use Rattle.axis.specs.Siblings.{LaterEnd}
+use Rattle.axis.specs.Later.{LaterEnd}
 use Rattle.marks.proofs.MarkLaws.{any-append}
 use Rattle.marks.proofs.HopLaws.{in-under, child-within}
 use Rattle.marks.proofs.SiblingLaws.{later-on}

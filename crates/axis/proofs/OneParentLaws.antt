@@ -25,7 +25,8 @@ use Rattle.span.proofs.AppendedLaws.{appended-front}
 use Rattle.span.proofs.ScanLaws.{rows-join, rows-same}
 use Rattle.span.proofs.RangeLaws.{contexts-rise, any-hit, any-miss, cover-start, cover-done}
 use Rattle.marks.specs.Mark.{childIn}
-use Rattle.axis.specs.Siblings.{childThat, OneParent, ChildrenIn}
+use Rattle.direct.specs.Children.{childThat, ChildrenIn}
+use Rattle.axis.specs.Later.{OneParent}
 use Rattle.marks.proofs.HopLaws.{ChildIn, child-in}
 use Rattle.marks.proofs.SiblingLaws.{later-on, on-later}
 use Rattle.marks.proofs.LaterLaws.{no-later, later-parent, later-row, later-from, later-first, later-same}

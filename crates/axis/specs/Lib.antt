@@ -1,4 +1,2 @@
-pub mod Path
-pub mod Above
-pub mod Siblings
+pub mod Later
 pub mod Role

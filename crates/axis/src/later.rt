@@ -2,8 +2,8 @@
 // after it that lie before the end of its parent's descendants; there ends what the group reaches, and the next group
 // begins. Contexts of one parent reach what the first of them reaches, and those rows are written as they are met; what
 // the contexts of other groups reach goes through the set of `one_role`.
-use super::children::append_children;
 use super::role::one_role;
+use direct::children::append_children;
 use span::ranges::past_tree;
 ghost use mathlib.Core.Path.{_≡_};
 ghost use mathlib.Core.Bool.{true};
@@ -13,7 +13,7 @@ ghost use Rattle.tree.specs.Rules.{Shape};
 ghost use Rattle.span.specs.Want.{fits};
 ghost use Rattle.span.specs.Reach.{oneRole, Contexts, RoleIn, Parents, Wrote};
 ghost use Rattle.marks.specs.RowSet.{Blank};
-ghost use Rattle.axis.specs.Siblings.{OneParent, LaterEnd};
+ghost use Rattle.axis.specs.Later.{OneParent, LaterEnd};
 ghost use Rattle.axis.specs.Role.{RoleDone};
 
 // Whether all contexts of a group have the parent of the first.

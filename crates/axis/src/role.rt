@@ -8,7 +8,7 @@ ghost use Rattle.marks.specs.RowSet.{Marks, Marked};
 ghost use Rattle.marks.specs.Mark.{Zeros};
 ghost use Rattle.axis.specs.Role.{rangedAxis, aboveAxis, markedAxis, climbsAxis, sideAxis, UpFor};
 ghost use Rattle.axis.specs.Role.{RoleAsk, RoleDone};
-use super::above;
+use direct::above;
 use marks::mark;
 use marks::row_set;
 use span::ranges;
@@ -174,8 +174,8 @@ pub fn up_for(axis: usize, size: &[usize], level: &[usize], count: usize, up: &m
 }
 
 // The rows that one role reaches, written to the front of out; answers how many. The set is empty before and after.
-// Faster are `path::lone_rows` where `path::is_lone` holds, `earlier::rising_rows` where `earlier::is_rising` does, and
-// `later::later_siblings` on following-sibling.
+// Faster are, of crate `direct`, `path::lone_rows` where `path::is_lone` holds and `earlier::rising_rows` where
+// `earlier::is_rising` does, and `later::later_siblings` on following-sibling.
 pub fn one_role(
     axis: usize,
     size: &[usize],

@@ -13,7 +13,7 @@ use Rattle.tree.proofs.TreeLaws.{parent-below}
 use Rattle.tree.proofs.SoundLaws.{shape-fits}
 use Rattle.span.specs.Reach.{Parents}
 use Rattle.step.specs.Most.{sumOf, spanOf, placeSpan, parentSpan, FewRows}
-use Rattle.axis.proofs.ClimbLaws.{parent-low}
+use Rattle.direct.proofs.ClimbLaws.{parent-low}
 use Rattle.step.proofs.SumLaws.{sum-less, sum-same}
 
 -- ── the row that a place names ──

@@ -1,0 +1,8 @@
+pub mod ClimbLaws
+pub mod AncestorLaws
+pub mod PathLaws
+pub mod LoneLaws
+pub mod ReverseLaws
+pub mod AboveLaws
+pub mod ChildRowLaws
+pub mod EarlierLaws

@@ -1,0 +1,4 @@
+pub mod Path
+pub mod Above
+pub mod Children
+pub mod Earlier

@@ -1,0 +1,105 @@
+// The children of a row, from one of them on and before another, written as they are met: a walk by hops over subtrees.
+ghost use Prim.Native.Nat.{_<_, _≤_};
+ghost use Rattle.span.specs.Want.{fits};
+ghost use Rattle.span.specs.Range.{rowsIn, Appended};
+ghost use Rattle.direct.specs.Children.{childThat, ChildOrEnd, ChildrenIn};
+use span::want::fits_row;
+
+// Where a walk from child to child is: the next row, and the place after the rows written.
+struct Stand {
+    row: usize,
+    place: usize,
+}
+
+// Appends children of row p that fit, from child `row` on and before row `end`: the leaves that follow one another, and
+// the child after them. The next row after a leaf does not wait for its size.
+fn append_leaves(
+    size: &[usize],
+    level: &[usize],
+    kind: &[usize],
+    name: &[usize],
+    count: usize,
+    p: usize,
+    row: usize,
+    end: usize,
+    want_kind: usize,
+    want_name: usize,
+    out: &mut [usize],
+    place: usize,
+) -> Stand
+    requires { ⌜ (row < end) × ChildrenIn (now size) (now level) (now kind) (now name) count p row end
+        «want_kind» «want_name» (now out) place ⌝ }
+    ensures { λ r. ⌜ (row < r .row) × (r .row ≤ end)
+        × ChildOrEnd (now (size .entry)) (now (level .entry)) p (r .row)
+        × Appended
+        (rowsIn (childThat (fits «want_kind» «want_name» (now (kind .entry)) (now (name .entry)))
+        (now (level .entry)) p) row (r .row))
+        (now (out .entry)) place (r .place) (now (out .exit)) ⌝ }
+{
+    let mut w = row;
+    let mut next = place;
+    while w < end {
+        if fits_row(kind, name, want_kind, want_name, w) {
+            out[next] = w;
+            next = next + 1;
+        }
+        let below = size[w];
+        w = w + 1;
+        if below != 0 {
+            return Stand {
+                row: w + below,
+                place: next,
+            };
+        }
+    }
+    Stand {
+        row: w,
+        place: next,
+    }
+}
+
+// Appends the children of row p from row `from` on and before row `end` that fit; answers the place after them. Both
+// rows are children of p, or the end of its descendants.
+pub fn append_children(
+    size: &[usize],
+    level: &[usize],
+    kind: &[usize],
+    name: &[usize],
+    count: usize,
+    p: usize,
+    from: usize,
+    end: usize,
+    want_kind: usize,
+    want_name: usize,
+    out: &mut [usize],
+    place: usize,
+) -> usize
+    requires { ⌜ ChildrenIn (now size) (now level) (now kind) (now name) count p from end
+        «want_kind» «want_name» (now out) place ⌝ }
+    ensures { λ r. ⌜ Appended
+        (rowsIn (childThat (fits «want_kind» «want_name» (now (kind .entry)) (now (name .entry)))
+        (now (level .entry)) p) from end)
+        (now (out .entry)) place r (now (out .exit)) ⌝ }
+{
+    let mut w = from;
+    let mut next = place;
+    while w < end {
+        let s = append_leaves(
+            size,
+            level,
+            kind,
+            name,
+            count,
+            p,
+            w,
+            end,
+            want_kind,
+            want_name,
+            out,
+            next,
+        );
+        w = s.row;
+        next = s.place;
+    }
+    next
+}

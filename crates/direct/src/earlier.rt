@@ -1,0 +1,125 @@
+// Preceding-sibling, where the parents do not fall from one context of a role to the next: what each context adds comes
+// after what is written, since it is the siblings before it that are not before the context ahead of it. They are
+// written as they are met, without a set.
+use super::children::append_children;
+use tree::logic::greater;
+ghost use mathlib.Core.Path.{_≡_};
+ghost use mathlib.Core.Bool.{true, false};
+ghost use Prim.Native.Nat.{_≤_};
+ghost use Rattle.span.specs.Want.{fits};
+ghost use Rattle.span.specs.Range.{Appended};
+ghost use Rattle.span.specs.Reach.{oneRole, Contexts, RoleIn, Parents, Wrote};
+ghost use Rattle.direct.specs.Earlier.{earlierFrom, EarlierIn, ParentsRise};
+
+// Whether earlier siblings are asked for, and no context has a parent before that of the context ahead of it. No parent
+// counts as the first.
+pub fn is_rising(axis: usize, up: &[usize; 4096], count: usize, rows: &[usize]) -> bool
+    requires { ⌜ (count ≤ 4096) × Contexts (now rows) count ⌝ }
+    ensures { λ r. ⌜ (r ≡ true → (axis ≡ 11) × ParentsRise (now (up .entry)) (now (rows .entry)))
+        × (r ≡ false → axis ≡ 11 → ParentsRise (now (up .entry)) (now (rows .entry)) → ⊥) ⌝ }
+{
+    if axis != 11 {
+        return false;
+    }
+    let mut last = 0;
+    let mut k = 0;
+    while k < rows.len() {
+        let c = rows[k];
+        let q = up[c];
+        if q < last {
+            return false;
+        }
+        last = q;
+        k = k + 1;
+    }
+    true
+}
+
+// Appends the earlier siblings of row c from row `floor` on that fit; answers the place after them.
+fn append_earlier(
+    size: &[usize],
+    level: &[usize],
+    kind: &[usize],
+    name: &[usize],
+    up: &[usize; 4096],
+    count: usize,
+    floor: usize,
+    c: usize,
+    want_kind: usize,
+    want_name: usize,
+    out: &mut [usize],
+    place: usize,
+) -> usize
+    requires { ⌜ EarlierIn (now size) (now level) (now kind) (now name) (now up) count floor c
+        «want_kind» «want_name» (now out) place ⌝ }
+    ensures { λ r. ⌜ Appended
+        (earlierFrom (now (level .entry)) floor c
+        (fits «want_kind» «want_name» (now (kind .entry)) (now (name .entry))))
+        (now (out .entry)) place r (now (out .exit)) ⌝ }
+{
+    let q = up[c];
+    if q == 0 {
+        return place;
+    }
+    append_children(
+        size,
+        level,
+        kind,
+        name,
+        count,
+        q - 1,
+        greater(q, floor),
+        c,
+        want_kind,
+        want_name,
+        out,
+        place,
+    )
+}
+
+// Axis 11, where the parents do not fall: writes the earlier siblings of the contexts of one role that fit to the front
+// of out; answers how many.
+pub fn rising_rows(
+    size: &[usize],
+    level: &[usize],
+    kind: &[usize],
+    name: &[usize],
+    up: &[usize; 4096],
+    count: usize,
+    rows: &[usize],
+    want_kind: usize,
+    want_name: usize,
+    out: &mut [usize],
+) -> usize
+    requires { ⌜ RoleIn 11 (now size) (now level) (now kind) (now name) count
+        «want_kind» «want_name» (now rows) (now out) ⌝ }
+    requires { ⌜ Parents (now level) count (now up) × ParentsRise (now up) (now rows) ⌝ }
+    ensures { λ r. ⌜ Wrote
+        (oneRole 11 (now (level .entry)) count
+        (fits «want_kind» «want_name» (now (kind .entry)) (now (name .entry))) (now (rows .entry)))
+        (now (out .entry)) r (now (out .exit)) ⌝ }
+{
+    let mut next = 0;
+    let mut floor = 0;
+    let mut i = 0;
+    while i < rows.len() {
+        let c = rows[i];
+        next = append_earlier(
+            size,
+            level,
+            kind,
+            name,
+            up,
+            count,
+            floor,
+            c,
+            want_kind,
+            want_name,
+            out,
+            next,
+        );
+        floor = c;
+        i += 1;
+    }
+    next
+}
