@@ -1,21 +1,25 @@
 -- The rows that a role keeps where the next context decides: `pass-..` are the turns of the pass that counts them, on
--- any axis; `inner-..` where ancestors of contexts are dropped, `own-..` where none is. Assumes nothing.
+-- any axis; `inner-..` where ancestors of contexts are dropped, `own-..` where none is. Fewer than two contexts all
+-- remain: `kept-few`. Assumes nothing.
 use mathlib.Core.Path.{_≡_, refl, sym, ap, _∙_}
 use mathlib.Core.Logic.{_⊎_, inl, inr, ⊎-elim}
-use mathlib.Core.Bool.{true, false}
+use mathlib.Core.Bool.{Bool, true, false, cond, _&&_, _||_, and-false}
 use mathlib.Core.List.{List}
 use Prim.Native.Nat.{ℕ, _+_, _-_, _<_, _≤_}
-use native.Mathlib.Nat.{le-antisymm, eq-or-lt-of-le}
+use native.Mathlib.Nat.{le-refl, le-antisymm, eq-or-lt-of-le}
 use native.Mathlib.Omega.{arith}
+use borrow.Author.Tests.{le-ltb}
+use lib.Dec.{eqb}
 use lib.ListN.{length}
 use Rattle.tree.specs.Table.{at}
+use Rattle.tree.specs.Tree.{ancestor, sameTree}
 use Rattle.tree.specs.Kept.{drops}
 use Rattle.tree.proofs.TreeLaws.{less?}
 use Rattle.tree.proofs.SoundLaws.{shape-descendants}
 use Rattle.kept.specs.KeptOf.{keptOf, KeptIn}
 use Rattle.span.proofs.RangeLaws.{contexts-rise}
 use Rattle.kept.proofs.KeptOfLaws.{keptRow, keptBelow, kept-rows, row-none, row-dropped, row-kept}
-use Rattle.kept.proofs.KeptOfLaws.{below-skip, below-next, below-none}
+use Rattle.kept.proofs.KeptOfLaws.{below-skip, below-next, below-none, kept-none}
 use Rattle.kept.proofs.KeptOuterLaws.{ancestor-not-before, ancestor-not-past}
 
 -- ── the next context decides ──
@@ -151,3 +155,30 @@ module _ {size level : List ℕ} {n : ℕ} {cs : List ℕ} (pre : KeptIn size le
     pub own-skip : at cs i ≤ at cs (i - 1) → Passed 1 level cs kept (i + 1)
     own-skip a =
         pass-skip 1 pre s l (inl (le-antisymm (contexts-rise (pre .contexts) (i - 1) i (omega arith) l) a))
+
+-- ── fewer than two contexts ──
+-- two answers that are no
+neither-way : (b : Bool) {x y : Bool} → x ≡ false → y ≡ false → cond b x y ≡ false
+neither-way true e f = e
+neither-way false e f = f
+
+module _ {size level : List ℕ} {n : ℕ} {cs : List ℕ} (pre : KeptIn size level n cs) (axis : ℕ) where
+  -- no row makes itself redundant
+  own-stays : (c : ℕ) → c < n → drops axis level c c ≡ false
+  unfolding drops
+  own-stays c l =
+      let a : ancestor level c c ≡ false = ancestor-not-before (pre .shape) l l (le-refl c) in
+      neither-way (eqb axis 3 || eqb axis 4) a
+      (neither-way (eqb axis 6 || eqb axis 7) a
+      (neither-way (eqb axis 8 || eqb axis 9)
+      (ap (λ (b : Bool). sameTree level c c && b) (le-ltb c c (le-refl c)) ∙ and-false (sameTree level c c)) refl))
+
+  pub kept-few : length cs < 2 → length cs ≡ keptOf axis level cs
+  kept-few l = ⊎-elim
+      (λ (x : length cs < 1). let e : length cs ≡ 0 = omega arith in e ∙ kept-none axis level cs e)
+      (λ (x : 1 ≤ length cs).
+      let e : length cs ≡ 1 = omega arith in
+      e ∙ pass-done axis pre (pass-start axis pre x) (omega arith) (row-kept axis level cs 0 x (λ j m.
+      let z : j ≡ 0 = omega arith in
+      ap (λ (k : ℕ). drops axis level (at cs 0) (at cs k)) z ∙ own-stays (at cs 0) (pre .contexts .inside 0 x))))
+      (less? (length cs) 1)

@@ -93,7 +93,7 @@ fn kept_trees(size: &[usize], level: &[usize], top: &[usize], count: usize, rows
     kept
 }
 
-// How many distinct contexts of one role remain on an axis when redundant ones are dropped.
+// How many distinct contexts of one role remain on an axis when redundant ones are dropped. Of fewer than two all do.
 pub fn kept_of(
     axis: usize,
     size: &[usize],
@@ -106,8 +106,8 @@ pub fn kept_of(
     requires { ⌜ (sideAxis axis ≡ true → Roots (now level) count (now up)) ⌝ }
     ensures { λ r. ⌜ r ≡ keptOf axis (now (level .entry)) (now (rows .entry)) ⌝ }
 {
-    if rows.len() == 0 {
-        return 0;
+    if rows.len() < 2 {
+        return rows.len();
     }
     match axis {
         3 | 4 => kept_outermost(size, level, count, rows),

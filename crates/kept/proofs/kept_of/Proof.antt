@@ -4,13 +4,14 @@ use mathlib.Core.Path.{_∙_}
 use mathlib.Core.Logic.{inl, inr, ⊎-elim}
 use native.Mathlib.Omega.{arith}
 use borrow.Author.Needs.{needs}
-use Rattle.kept.proofs.KeptOfLaws.{kept-none, kept-descend, kept-ascend, kept-aside, kept-plain}
+use Rattle.kept.proofs.KeptOfLaws.{kept-descend, kept-ascend, kept-aside, kept-plain}
+use Rattle.kept.proofs.KeptPassLaws.{kept-few}
 use Rattle.kept.proofs.KeptTreeLaws.{side-range}
 use Rattle.kept.proofs.kept_of.Statement.{statement}
 use Rattle.kept.proofs.kept_of.Tie as tie
 
 returns : tie.Need-returns
-returns c = kept-none _ _ _ (c .if1 .taken)
+returns c = kept-few (c .before .before .before .before .pre .0) _ (c .if1 .taken)
 
 kept-outermost-requires : tie.Need-kept-outermost-requires
 kept-outermost-requires c κs = search needs
