@@ -7,6 +7,7 @@ ghost use Rattle.step.specs.Leaves.{Leaves, Known};
 mod ask; // ask.rt: the axis code, the test code and its name
 mod checks; // checks.rt: refusals 1 to 7
 mod most; // most.rt: an upper bound of the number of lines
+mod runs; // runs.rt: the run of pairs of one role
 mod roles; // roles.rt: all roles
 mod room; // room.rt: whether the lines fit
 

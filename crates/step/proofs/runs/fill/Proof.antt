@@ -1,4 +1,4 @@
--- `step::roles::fill` meets its contract. The first i places hold v. Assumes nothing.
+-- `step::runs::fill` meets its contract. The first i places hold v. Assumes nothing.
 use Prim.Native.Nat.{_-_, _≤_}
 use mathlib.Core.Path.{_≡_, refl}
 use native.Mathlib.Nat.{le-antisymm}
@@ -7,8 +7,8 @@ use lib.ListN.{length, replicate, length-set, length-replicate, replicate-append
 use Rattle.span.specs.Reach.{Wrote}
 use Rattle.span.proofs.WroteLaws.{wrote-as, wrote-none, wrote-more}
 use borrow.Author.Needs.{needs}
-use Rattle.step.proofs.roles.fill.Statement.{statement}
-use Rattle.step.proofs.roles.fill.Tie as tie
+use Rattle.step.proofs.runs.fill.Statement.{statement}
+use Rattle.step.proofs.runs.fill.Tie as tie
 
 abbrev Inv-loop : tie.InvT-loop
 Inv-loop part₀ n v i₀ part i = (i ≤ n) × (length part ≡ length part₀) × Wrote (replicate i v) part₀ i part

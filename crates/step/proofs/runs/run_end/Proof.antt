@@ -1,4 +1,4 @@
--- `step::roles::run_end` meets its contract. The roles from i up to j are all that of i. Assumes nothing.
+-- `step::runs::run_end` meets its contract. The roles from i up to j are all that of i. Assumes nothing.
 use Prim.Native.Nat.{ℕ, _-_, _<_, _≤_}
 use mathlib.Core.Path.{_≡_}
 use mathlib.Core.Logic.{⊎-elim}
@@ -8,8 +8,8 @@ use native.Mathlib.Omega.{arith}
 use lib.ListN.{length}
 use Rattle.tree.specs.Table.{at}
 use borrow.Author.Needs.{needs}
-use Rattle.step.proofs.roles.run_end.Statement.{statement}
-use Rattle.step.proofs.roles.run_end.Tie as tie
+use Rattle.step.proofs.runs.run_end.Statement.{statement}
+use Rattle.step.proofs.runs.run_end.Tie as tie
 
 abbrev Inv-loop : tie.InvT-loop
 Inv-loop role i own j₀ j = (i < j) × (j ≤ length role) × ((k : ℕ) → i ≤ k → k < j → at role k ≡ at role i)
