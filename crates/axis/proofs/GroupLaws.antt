@@ -22,16 +22,17 @@ use Rattle.tree.proofs.SoundLaws.{shape-steps, shape-fits}
 use Rattle.tree.proofs.AxisLaws.{false-of}
 use Rattle.span.specs.Want.{fits}
 use Rattle.span.specs.Range.{rowsIn, PastTree}
-use Rattle.span.specs.Reach.{anyOn, oneRole, RoleIn, Wrote}
+use Rattle.span.specs.OneRole.{anyOn, oneRole, RoleIn, Wrote}
 use Rattle.span.proofs.WroteLaws.{wrote-as, wrote-none, wrote-length, wrote-part}
 use Rattle.span.proofs.ScanLaws.{rows-join, rows-same, part-length}
 use Rattle.span.proofs.RangeLaws.{contexts-rise, any-miss}
 use Rattle.span.proofs.SideLaws.{nests}
 use Rattle.axis.specs.Later.{LaterEnd}
 use Rattle.marks.proofs.MarkLaws.{any-append}
-use Rattle.marks.proofs.HopLaws.{in-under, child-within}
+use Rattle.marks.proofs.ChildWalkLaws.{in-under, child-within}
 use Rattle.marks.proofs.SiblingLaws.{later-on}
 use Rattle.marks.proofs.LaterLaws.{later-parent}
+use Rattle.span.specs.declared.want.Want.{Want}
 
 -- ── how far contexts reach ──
 module _ {size level : List ℕ} {n : ℕ} (s : Shape size level n) {c e : ℕ} (here : c < n)
@@ -128,16 +129,16 @@ pub record Grouped (level : List ℕ) (n : ℕ) (test : ℕ → Bool) (cs d out 
   pub split : oneRole 10 level n test cs ≡ rows ++ oneRole 10 level n test (drop i cs)
   pub wrote : Wrote rows d next out
 
-module _ {size level kind name : List ℕ} {n wk wn : ℕ} {cs d : List ℕ}
-    (pre : RoleIn 10 size level kind name n wk wn cs d) where
+module _ {size level kind name : List ℕ} {n : ℕ} {want : Want} {cs d : List ℕ}
+    (pre : RoleIn 10 size level kind name n cs want d) where
   abbrev Rows : List ℕ → List ℕ
-  Rows = oneRole 10 level n (fits wk wn kind name)
+  Rows = oneRole 10 level n (fits want kind name)
 
   -- no group is written yet
-  pub group-start : Grouped level n (fits wk wn kind name) cs d d 0 0
+  pub group-start : Grouped level n (fits want kind name) cs d d 0 0
   group-start = record { few = omega arith; rows = []; split = refl; wrote = wrote-none d }
 
-  module _ {out : List ℕ} {next i : ℕ} (s : Grouped level n (fits wk wn kind name) cs d out next i) where
+  module _ {out : List ℕ} {next i : ℕ} (s : Grouped level n (fits want kind name) cs d out next i) where
     -- there is room for what is written and what is to come
     both-fit : next + length (Rows (drop i cs)) ≤ length d
     both-fit = omega (arith, pre .room, s .wrote .many, simp length-append at (ap length (s .split)))
@@ -149,12 +150,12 @@ module _ {size level kind name : List ℕ} {n wk wn : ℕ} {cs d : List ℕ}
     group-place = omega (arith, both-fit, group-length)
 
     -- no context is left
-    pub group-done : length cs ≤ i → Wrote (oneRole 10 level n (fits wk wn kind name) cs) d next out
+    pub group-done : length cs ≤ i → Wrote (oneRole 10 level n (fits want kind name) cs) d next out
     group-done l =
         let e : i ≡ length cs = omega (arith, s .few) in
         let none : drop i cs ≡ [] = ap (λ (k : ℕ). drop k cs) e ∙ drop-length cs in
         wrote-as (sym (s .split
-        ∙ ap (λ (xs : List ℕ). s .rows ++ xs) (ap Rows none ∙ role-nobody 10 level n (fits wk wn kind name))
+        ∙ ap (λ (xs : List ℕ). s .rows ++ xs) (ap Rows none ∙ role-nobody 10 level n (fits want kind name))
         ∙ append-nil (s .rows))) (s .wrote)
 
     module _ (m : i < length cs) {e j : ℕ} (h : LaterEnd size level (at cs i) e) (q : PastTree cs i e j) where
@@ -212,13 +213,13 @@ module _ {size level kind name : List ℕ} {n wk wn : ℕ} {cs d : List ℕ}
 
       apart : Rows (drop i cs) ≡ Rows mine ++ Rows (drop j cs)
       apart = ap Rows cut
-          ∙ role-apart 10 level n (fits wk wn kind name) mine (drop j cs) e (reach-end (pre .shape) here h .1) low high
+          ∙ role-apart 10 level n (fits want kind name) mine (drop j cs) e (reach-end (pre .shape) here h .1) low high
 
       -- there is room for the group's rows
       fit : next + length (Rows mine) ≤ length d
       fit = omega (arith, both-fit, simp length-append at (ap length apart))
 
-      pub group-asks : RoleIn 10 size level kind name n wk wn mine (midOf next (length out - next) out)
+      pub group-asks : RoleIn 10 size level kind name n mine want (midOf next (length out - next) out)
       group-asks = record {
         shape = pre .shape;
         contexts = record {
@@ -244,7 +245,7 @@ module _ {size level kind name : List ℕ} {n wk wn : ℕ} {cs d : List ℕ}
         pub group-sum : next + k ≤ length d
         group-sum = omega (arith, t .many, fit)
 
-        pub group-turn : Grouped level n (fits wk wn kind name) cs d (putMid next (length out - next) out part)
+        pub group-turn : Grouped level n (fits want kind name) cs d (putMid next (length out - next) out part)
             (next + k) j
         group-turn = record {
           few = q .to;

@@ -19,7 +19,7 @@ use Rattle.tree.proofs.SoundLaws.{shape-fits, both-of}
 use Rattle.tree.proofs.AxisLaws.{false-of}
 use Rattle.span.specs.Want.{fits}
 use Rattle.span.specs.Range.{rowsIn, Appended}
-use Rattle.span.specs.Reach.{anyOn, oneRole, RoleIn, Parents, Wrote}
+use Rattle.span.specs.OneRole.{anyOn, oneRole, RoleIn, Parents, Wrote}
 use Rattle.span.proofs.WroteLaws.{wrote-as}
 use Rattle.span.proofs.AppendedLaws.{appended-front}
 use Rattle.span.proofs.ScanLaws.{rows-join, rows-same}
@@ -27,18 +27,19 @@ use Rattle.span.proofs.RangeLaws.{contexts-rise, any-hit, any-miss, cover-start
 use Rattle.marks.specs.Mark.{childIn}
 use Rattle.direct.specs.Children.{childThat, ChildrenIn}
 use Rattle.axis.specs.Later.{OneParent}
-use Rattle.marks.proofs.HopLaws.{ChildIn, child-in}
+use Rattle.marks.proofs.ChildWalkLaws.{ChildIn, child-in}
 use Rattle.marks.proofs.SiblingLaws.{later-on, on-later}
 use Rattle.marks.proofs.LaterLaws.{no-later, later-parent, later-row, later-from, later-first, later-same}
+use Rattle.span.specs.declared.want.Want.{Want}
 
-module _ {size level kind name up : List ℕ} {n wk wn : ℕ} {cs out : List ℕ}
-    (pre : RoleIn 10 size level kind name n wk wn cs out) (parents : Parents level n up) (one : OneParent up cs) where
+module _ {size level kind name up : List ℕ} {n : ℕ} {want : Want} {cs out : List ℕ}
+    (pre : RoleIn 10 size level kind name n cs want out) (parents : Parents level n up) (one : OneParent up cs) where
   -- the first context, and the test
   abbrev C : ℕ
   C = at cs 0
 
   abbrev test : ℕ → Bool
-  test = fits wk wn kind name
+  test = fits want kind name
 
   pub first-row : at cs 0 < n
   first-row = pre .contexts .inside 0 (one .some)
@@ -61,7 +62,7 @@ module _ {size level kind name up : List ℕ} {n wk wn : ℕ} {cs out : List ℕ
           (omega (arith, g .1, contexts-rise (pre .contexts) 0 k (omega arith) l))) ∙ e)))
 
   -- a root reaches nothing
-  pub first-none : at up (at cs 0) ≡ 0 → Wrote (oneRole 10 level n (fits wk wn kind name) cs) out 0 out
+  pub first-none : at up (at cs 0) ≡ 0 → Wrote (oneRole 10 level n (fits want kind name) cs) out 0 out
   first-none e = cover-done (cover-start pre) (λ w l m.
       first-reaches w ∙ no-later level C (sym (parents .parents C first-row) ∙ e) w)
 
@@ -123,7 +124,7 @@ module _ {size level kind name up : List ℕ} {n wk wn : ℕ} {cs out : List ℕ
     first-end = (omega (arith, end-in), omega arith)
 
     pub first-asks : {e : ℕ} → e ≡ at up (at cs 0) + at size (at up (at cs 0) - 1)
-        → ChildrenIn size level kind name n (at up (at cs 0) - 1) (at cs 0 + at size (at cs 0) + 1) e wk wn out 0
+        → ChildrenIn size level kind name n (at up (at cs 0) - 1) (at cs 0 + at size (at cs 0) + 1) e want out 0
     first-asks {e} q = rw (q ∙ first-end .1) record {
       shape = pre .shape;
       row = later-parent (pre .shape) C p first-row is-parent;
@@ -141,6 +142,6 @@ module _ {size level kind name up : List ℕ} {n wk wn : ℕ} {cs out : List ℕ
 
     pub first-done : {e r : ℕ} {new : List ℕ} → e ≡ at up (at cs 0) + at size (at up (at cs 0) - 1)
         → Appended (rowsIn (childThat test level p) A e) out 0 r new
-        → Wrote (oneRole 10 level n (fits wk wn kind name) cs) out r new
+        → Wrote (oneRole 10 level n (fits want kind name) cs) out r new
     first-done q w = wrote-as
         (ap (rowsIn (childThat test level p) A) (q ∙ first-end .1) ∙ sym first-rows) (appended-front w)

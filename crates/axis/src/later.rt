@@ -5,19 +5,20 @@
 use super::role::one_role;
 use direct::children::append_children;
 use span::ranges::past_tree;
+use span::want::Want;
 ghost use mathlib.Core.Path.{_≡_};
 ghost use mathlib.Core.Bool.{true};
 ghost use Prim.Native.Nat.{_<_, _≤_};
 ghost use lib.ListN.{length};
 ghost use Rattle.tree.specs.Rules.{Shape};
 ghost use Rattle.span.specs.Want.{fits};
-ghost use Rattle.span.specs.Reach.{oneRole, Contexts, RoleIn, Parents, Wrote};
+ghost use Rattle.span.specs.OneRole.{oneRole, Contexts, RoleIn, Parents, Wrote};
 ghost use Rattle.marks.specs.RowSet.{Blank};
 ghost use Rattle.axis.specs.Later.{OneParent, LaterEnd};
 ghost use Rattle.axis.specs.Role.{RoleDone};
 
 // Whether all contexts of a group have the parent of the first.
-fn have_one_parent(up: &[usize; 4096], count: usize, rows: &[usize]) -> bool
+fn have_one_parent(count: usize, up: &[usize; 4096], rows: &[usize]) -> bool
     requires { ⌜ (count ≤ 4096) × (0 < length (now rows)) × Contexts (now rows) count ⌝ }
     ensures { λ r. ⌜ (r ≡ true → OneParent (now (up .entry)) (now (rows .entry))) ⌝ }
 {
@@ -40,19 +41,18 @@ fn siblings_of_first(
     level: &[usize],
     kind: &[usize],
     name: &[usize],
-    up: &[usize; 4096],
     count: usize,
+    up: &[usize; 4096],
     rows: &[usize],
-    want_kind: usize,
-    want_name: usize,
+    want: Want,
     out: &mut [usize],
 ) -> usize
     requires { ⌜ RoleIn 10 (now size) (now level) (now kind) (now name) count
-        «want_kind» «want_name» (now rows) (now out) ⌝ }
+        (now rows) want (now out) ⌝ }
     requires { ⌜ Parents (now level) count (now up) × OneParent (now up) (now rows) ⌝ }
     ensures { λ r. ⌜ Wrote
         (oneRole 10 (now (level .entry)) count
-        (fits «want_kind» «want_name» (now (kind .entry)) (now (name .entry))) (now (rows .entry)))
+        (fits want (now (kind .entry)) (now (name .entry))) (now (rows .entry)))
         (now (out .entry)) r (now (out .exit)) ⌝ }
 {
     let c = rows[0];
@@ -69,8 +69,7 @@ fn siblings_of_first(
         q - 1,
         c + size[c] + 1,
         q + size[q - 1],
-        want_kind,
-        want_name,
+        want,
         out,
         0,
     )
@@ -83,53 +82,40 @@ fn group_siblings(
     level: &[usize],
     kind: &[usize],
     name: &[usize],
-    up: &[usize; 4096],
     count: usize,
+    up: &[usize; 4096],
     rows: &[usize],
-    want_kind: usize,
-    want_name: usize,
+    want: Want,
     words: &mut [u64; 64],
     out: &mut [usize],
 ) -> usize
     requires { ⌜ RoleIn 10 (now size) (now level) (now kind) (now name) count
-        «want_kind» «want_name» (now rows) (now out) ⌝ }
+        (now rows) want (now out) ⌝ }
     requires { ⌜ (0 < length (now rows)) × Parents (now level) count (now up) × Blank (now words) ⌝ }
     ensures { λ r. ⌜ RoleDone 10 (now (level .entry)) (now (kind .entry)) (now (name .entry)) count
-        «want_kind» «want_name» (now (rows .entry)) (now (words .exit))
+        (now (rows .entry)) want (now (words .exit))
         (now (out .entry)) r (now (out .exit)) ⌝ }
 {
-    if have_one_parent(up, count, rows) {
-        return siblings_of_first(
-            size,
-            level,
-            kind,
-            name,
-            up,
-            count,
-            rows,
-            want_kind,
-            want_name,
-            out,
-        );
+    if have_one_parent(count, up, rows) {
+        return siblings_of_first(size, level, kind, name, count, up, rows, want, out);
     }
     one_role(
-        10,
         size,
         level,
         kind,
         name,
-        up,
         count,
+        up,
         rows,
-        want_kind,
-        want_name,
+        10,
+        want,
         words,
         out,
     )
 }
 
 // The end of the rows that context c reaches.
-fn later_end(size: &[usize], level: &[usize], up: &[usize; 4096], count: usize, c: usize) -> usize
+fn later_end(size: &[usize], level: &[usize], count: usize, up: &[usize; 4096], c: usize) -> usize
     requires { ⌜ Shape (now size) (now level) count × Parents (now level) count (now up) × (c < count) ⌝ }
     ensures { λ r. ⌜ LaterEnd (now (size .entry)) (now (level .entry)) c r ⌝ }
 {
@@ -147,25 +133,24 @@ pub fn later_siblings(
     level: &[usize],
     kind: &[usize],
     name: &[usize],
-    up: &[usize; 4096],
     count: usize,
+    up: &[usize; 4096],
     rows: &[usize],
-    want_kind: usize,
-    want_name: usize,
+    want: Want,
     words: &mut [u64; 64],
     out: &mut [usize],
 ) -> usize
     requires { ⌜ RoleIn 10 (now size) (now level) (now kind) (now name) count
-        «want_kind» «want_name» (now rows) (now out) ⌝ }
+        (now rows) want (now out) ⌝ }
     requires { ⌜ Parents (now level) count (now up) × Blank (now words) ⌝ }
     ensures { λ r. ⌜ RoleDone 10 (now (level .entry)) (now (kind .entry)) (now (name .entry)) count
-        «want_kind» «want_name» (now (rows .entry)) (now (words .exit))
+        (now (rows .entry)) want (now (words .exit))
         (now (out .entry)) r (now (out .exit)) ⌝ }
 {
     let mut next = 0;
     let mut i = 0;
     while i < rows.len() {
-        let end = later_end(size, level, up, count, rows[i]);
+        let end = later_end(size, level, count, up, rows[i]);
         let j = past_tree(rows, i, end);
         let part = &mut out[next..];
         next = next
@@ -174,11 +159,10 @@ pub fn later_siblings(
                 level,
                 kind,
                 name,
-                up,
                 count,
+                up,
                 &rows[i..j],
-                want_kind,
-                want_name,
+                want,
                 words,
                 part,
             );

@@ -2,7 +2,7 @@
 ghost use mathlib.Core.Path.{_≡_};
 ghost use mathlib.Core.Bool.{true};
 ghost use Rattle.tree.specs.Rules.{Shape};
-ghost use Rattle.span.specs.Reach.{oneRole, RoleIn, Wrote, Parents, Roots};
+ghost use Rattle.span.specs.OneRole.{oneRole, RoleIn, Wrote, Parents, Roots};
 ghost use Rattle.span.specs.Want.{fits};
 ghost use Rattle.marks.specs.RowSet.{Marks, Marked};
 ghost use Rattle.marks.specs.Mark.{Zeros};
@@ -12,101 +12,46 @@ use direct::above;
 use marks::mark;
 use marks::row_set;
 use span::ranges;
-use tree::logic::either;
+use span::want::Want;
 
 // Whether the rows of the axis come out as ranges.
 fn is_ranged(axis: usize) -> bool
     ensures { λ r. ⌜ r ≡ rangedAxis axis ⌝ }
 {
-    either(
-        axis == 1,
-        either(axis == 3, either(axis == 4, either(axis == 8, axis == 9))),
-    )
+    match axis {
+        1 | 3..=4 | 8..=9 => true,
+        _ => false,
+    }
 }
 
 // The axes whose rows come out as ranges: writes the rows to the front of out, answers how many.
 fn ranged(
-    axis: usize,
-    level: &[usize],
     size: &[usize],
+    level: &[usize],
     kind: &[usize],
     name: &[usize],
-    up: &[usize; 4096],
     count: usize,
+    up: &[usize; 4096],
     rows: &[usize],
-    want_kind: usize,
-    want_name: usize,
+    axis: usize,
+    want: Want,
     out: &mut [usize],
 ) -> usize
     requires { ⌜ rangedAxis axis ≡ true ⌝ }
     requires { ⌜ RoleIn axis (now size) (now level) (now kind) (now name) count
-        «want_kind» «want_name» (now rows) (now out) ⌝ }
+        (now rows) want (now out) ⌝ }
     requires { ⌜ (sideAxis axis ≡ true → Roots (now level) count (now up)) ⌝ }
     ensures { λ r. ⌜ Wrote
         (oneRole axis (now (level .entry)) count
-        (fits «want_kind» «want_name» (now (kind .entry)) (now (name .entry))) (now (rows .entry)))
+        (fits want (now (kind .entry)) (now (name .entry))) (now (rows .entry)))
         (now (out .entry)) r (now (out .exit)) ⌝ }
 {
     match axis {
-        1 => ranges::own_rows(
-            level,
-            size,
-            kind,
-            name,
-            count,
-            rows,
-            want_kind,
-            want_name,
-            out,
-        ),
-        3 => ranges::rows_below(
-            1,
-            level,
-            size,
-            kind,
-            name,
-            count,
-            rows,
-            want_kind,
-            want_name,
-            out,
-        ),
-        4 => ranges::rows_below(
-            0,
-            level,
-            size,
-            kind,
-            name,
-            count,
-            rows,
-            want_kind,
-            want_name,
-            out,
-        ),
-        8 => ranges::rows_after(
-            level,
-            size,
-            kind,
-            name,
-            up,
-            count,
-            rows,
-            want_kind,
-            want_name,
-            out,
-        ),
-        _ => ranges::rows_before(
-            level,
-            size,
-            kind,
-            name,
-            up,
-            count,
-            rows,
-            want_kind,
-            want_name,
-            out,
-        ),
+        1 => ranges::own_rows(size, level, kind, name, count, rows, want, out),
+        3 => ranges::rows_below(size, level, kind, name, count, rows, 1, want, out),
+        4 => ranges::rows_below(size, level, kind, name, count, rows, 0, want, out),
+        8 => ranges::rows_after(size, level, kind, name, count, up, rows, want, out),
+        _ => ranges::rows_before(size, level, kind, name, count, up, rows, want, out),
     }
 }
 
@@ -114,17 +59,20 @@ fn ranged(
 fn is_above(axis: usize) -> bool
     ensures { λ r. ⌜ r ≡ aboveAxis axis ⌝ }
 {
-    either(axis == 6, axis == 7)
+    match axis {
+        6..=7 => true,
+        _ => false,
+    }
 }
 
 // The other axes: puts the rows into the set, answers which of its words are used.
 fn marked(
-    axis: usize,
     size: &[usize],
     level: &[usize],
-    up: &[usize; 4096],
     count: usize,
+    up: &[usize; 4096],
     rows: &[usize],
+    axis: usize,
     words: &mut [u64; 64],
 ) -> u64
     requires { ⌜ markedAxis axis ≡ true ⌝ }
@@ -134,9 +82,9 @@ fn marked(
 {
     match axis {
         2 => mark::mark_children(size, level, count, rows, words),
-        5 => mark::mark_parents(size, level, up, count, rows, words),
-        10 => mark::mark_later_siblings(size, level, up, count, rows, words),
-        _ => mark::mark_earlier_siblings(size, level, up, count, rows, words),
+        5 => mark::mark_parents(size, level, count, up, rows, words),
+        10 => mark::mark_later_siblings(size, level, count, up, rows, words),
+        _ => mark::mark_earlier_siblings(size, level, count, up, rows, words),
     }
 }
 
@@ -144,22 +92,25 @@ fn marked(
 fn climbs(axis: usize) -> bool
     ensures { λ r. ⌜ r ≡ climbsAxis axis ⌝ }
 {
-    either(
-        axis == 5,
-        either(axis == 6, either(axis == 7, either(axis == 10, axis == 11))),
-    )
+    match axis {
+        5..=7 | 10..=11 => true,
+        _ => false,
+    }
 }
 
 // Whether the axis stops at the ends of a tree.
 fn sides(axis: usize) -> bool
     ensures { λ r. ⌜ r ≡ sideAxis axis ⌝ }
 {
-    either(axis == 8, axis == 9)
+    match axis {
+        8..=9 => true,
+        _ => false,
+    }
 }
 
 // Leaves in `up`, which comes with zeros, what the axis follows: the parents of all rows, or their roots where it stops
 // at the ends of a tree.
-pub fn up_for(axis: usize, size: &[usize], level: &[usize], count: usize, up: &mut [usize; 4096])
+pub fn up_for(size: &[usize], level: &[usize], count: usize, axis: usize, up: &mut [usize; 4096])
     requires { ⌜ Shape (now size) (now level) count ⌝ }
     requires { ⌜ Zeros (now up) ⌝ }
     ensures { λ _. ⌜ UpFor axis (now (level .entry)) count (now (up .exit)) ⌝ }
@@ -177,55 +128,41 @@ pub fn up_for(axis: usize, size: &[usize], level: &[usize], count: usize, up: &m
 // Faster are, of crate `direct`, `path::lone_rows` where `path::is_lone` holds and `earlier::rising_rows` where
 // `earlier::is_rising` does, and `later::later_siblings` on following-sibling.
 pub fn one_role(
-    axis: usize,
     size: &[usize],
     level: &[usize],
     kind: &[usize],
     name: &[usize],
-    up: &[usize; 4096],
     count: usize,
+    up: &[usize; 4096],
     rows: &[usize],
-    want_kind: usize,
-    want_name: usize,
+    axis: usize,
+    want: Want,
     words: &mut [u64; 64],
     out: &mut [usize],
 ) -> usize
-    requires { ⌜ RoleAsk axis (now size) (now level) (now kind) (now name) (now up) count
-        «want_kind» «want_name» (now rows) (now words) (now out) ⌝ }
+    requires { ⌜ RoleAsk axis (now size) (now level) (now kind) (now name) count (now up)
+        (now rows) want (now words) (now out) ⌝ }
     ensures { λ r. ⌜ RoleDone axis (now (level .entry)) (now (kind .entry)) (now (name .entry)) count
-        «want_kind» «want_name» (now (rows .entry)) (now (words .exit))
+        (now (rows .entry)) want (now (words .exit))
         (now (out .entry)) r (now (out .exit)) ⌝ }
 {
     if is_ranged(axis) {
-        return ranged(
-            axis,
-            level,
-            size,
-            kind,
-            name,
-            up,
-            count,
-            rows,
-            want_kind,
-            want_name,
-            out,
-        );
+        return ranged(size, level, kind, name, count, up, rows, axis, want, out);
     }
     if is_above(axis) {
         return above::rows_above(
-            axis - 6,
             size,
             level,
             kind,
             name,
-            up,
             count,
+            up,
             rows,
-            want_kind,
-            want_name,
+            axis - 6,
+            want,
             out,
         );
     }
-    let used = marked(axis, size, level, up, count, rows, words);
-    row_set::drain(kind, name, count, want_kind, want_name, words, used, out)
+    let used = marked(size, level, count, up, rows, axis, words);
+    row_set::drain(kind, name, count, want, words, used, out)
 }

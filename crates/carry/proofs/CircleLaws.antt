@@ -13,7 +13,8 @@ use Rattle.tree.specs.Table.{Table}
 use Rattle.tree.specs.Pairs.{Pair, pairsOf, rolesOf, rowsOf}
 use Rattle.tree.specs.StepRules.{PairsFit}
 use Rattle.tree.specs.Refusal.{givenAt, next, pairCheck, askCheck, roomCheck}
-use Rattle.tree.specs.Step.{Ask, stepList}
+use Rattle.tree.specs.declared.Ask.{Ask}
+use Rattle.tree.specs.Step.{stepList}
 use Rattle.tree.specs.Outcome.{overwritten, stepCheck}
 use Rattle.tree.specs.Carry.{carried, carryIf, carryCheck, carryOutcome}
 use Rattle.tree.specs.declared.Checked.{Checked}
@@ -24,13 +25,13 @@ use Rattle.tree.specs.declared.Carried.the-variants.{Written, Refused as NotCar
 use Rattle.tree.proofs.SoundLaws.{next-first, table-passes}
 use Rattle.tree.proofs.FindLaws.{given-refused}
 use Rattle.tree.proofs.RoleLaws.{pair-passes}
-use Rattle.tree.proofs.MoveLaws.{move-ok}
+use Rattle.tree.proofs.RowMoveLaws.{move-ok}
 use Rattle.tree.proofs.PairColumns.{pairs-columns, length-roles, length-rows}
 use Rattle.tree.proofs.CarryAccept.{carry-accepted, carried-fits}
-use Rattle.commute.specs.Act.{Act, outcome}
-use Rattle.commute.proofs.ActLaws.{accepted-fits}
-use Rattle.commute.proofs.FoundAgain.{edited-sound}
-use Rattle.carry.proofs.MoveLaws.{edit-moves}
+use Rattle.after_edit.specs.Act.{Act, outcome}
+use Rattle.after_edit.proofs.ActLaws.{accepted-fits}
+use Rattle.after_edit.proofs.FoundAgain.{edited-sound}
+use Rattle.carry.proofs.EditMoveLaws.{edit-moves}
 
 module _ (a : Act) (t : Table) (d : Done) (e : outcome a t .answer ≡ Made d) (role row : List ℕ) where
   -- the new list

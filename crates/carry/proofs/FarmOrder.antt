@@ -9,7 +9,7 @@ use native.Mathlib.Omega.{arith}
 use lib.IntN.{pos, negsuc}
 use Rattle.tree.specs.Search.{least, someBelow, nearest}
 use Rattle.tree.specs.Table.{Table, tableOf, shortest, countOk}
-use Rattle.tree.specs.Sound.{levelOk, runOf, sizeOf, sizeOk, kindOk, hasName, nameOk, rowOf, keyOk, restOk, rowOk}
+use Rattle.tree.specs.Sound.{levelOk, runOf, sizeOf, sizeOk, kindOk, hasName, nameOk, rowOf, keyOk, besideKeyOk, rowOk}
 use Rattle.tree.specs.Sound.{firstBad}
 use Rattle.tree.specs.Tree.{parent, above, ancestor, otherRoot}
 use Rattle.tree.specs.Pairs.{Pair, pair}
@@ -20,12 +20,12 @@ use Rattle.tree.specs.Carry.{wasDeleted, carriedBy, carried}
 use Rattle.tree.specs.declared.Done.{Done}
 use Rattle.tree.proofs.FarmCalls.{farm, leaf}
 use Rattle.tree.proofs.Farms.{farms}
-use Rattle.commute.specs.Act.{deletion, insertion, outcome}
-use Rattle.commute.specs.Independent.{inTurn}
-use Rattle.commute.proofs.FarmPair.{farm-independent}
+use Rattle.after_edit.specs.Act.{deletion, insertion, outcome}
+use Rattle.after_edit.specs.Independent.{inTurn}
+use Rattle.after_edit.proofs.FarmPair.{farm-independent}
 use Rattle.carry.specs.Refound.{refound}
 use Rattle.carry.proofs.GrantLaws.{Inside, carry-refinds}
-use Rattle.carry.proofs.TurnLaws.{either-order}
+use Rattle.carry.proofs.CarryBothLaws.{carry-either-order}
 
 -- role 5 holds the first turbine and one of its blades, role 7 the second turbine and the comment
 abbrev held : List Pair
@@ -53,12 +53,12 @@ thenDeletes = record { count = 9; first = 4; moved = negsuc 1 }
 
 -- either order carries the pairs to the same list
 pub farm-order : carried 7 (pos 1) (carried 4 (negsuc 1) held) ≡ carried 4 (negsuc 1) (carried 9 (pos 1) held)
-unfolding least someBelow nearest shortest countOk levelOk runOf sizeOf sizeOk kindOk hasName nameOk rowOf keyOk restOk
+unfolding least someBelow nearest shortest countOk levelOk runOf sizeOf sizeOk kindOk hasName nameOk rowOf keyOk besideKeyOk
     rowOk firstBad parent above ancestor otherRoot given givenAt next tableCheck keyCheck badPiece insertCheck
     deleteCheck editIf editCheck insertOutcome deleteOutcome opened closed changed gapOf inserted deleted minus
     insertDone deleteDone
 farm-order =
-    either-order (deletion 21) (insertion 31 leaf) farm farm-independent held held-inside
+    carry-either-order (deletion 21) (insertion 31 leaf) farm farm-independent held held-inside
     deletes thenInserts inserts thenDeletes refl refl refl refl
 
 -- namely to this one
@@ -73,7 +73,7 @@ blade = tableOf (21 ∷ []) (0 ∷ []) (0 ∷ []) (1 ∷ []) (3 ∷ []) 1
 -- where M9 deletes key 21 and the next edit brings it back, the grant is gone, though the last table has the key
 pub farm-back : (carried 4 (pos 1) (carried 4 (negsuc 1) (pair 5 2 ∷ [])) ≡ [])
     × (refound farm (inTurn (deletion 21) (insertion 20 blade) farm .table) (pair 5 2 ∷ []) ≡ pair 5 4 ∷ [])
-unfolding least someBelow nearest shortest countOk levelOk runOf sizeOf sizeOk kindOk hasName nameOk rowOf keyOk restOk
+unfolding least someBelow nearest shortest countOk levelOk runOf sizeOf sizeOk kindOk hasName nameOk rowOf keyOk besideKeyOk
     rowOk firstBad parent above ancestor otherRoot given givenAt next tableCheck keyCheck badPiece insertCheck
     deleteCheck editIf editCheck insertOutcome deleteOutcome opened closed changed gapOf inserted deleted minus
     insertDone deleteDone carried carriedBy wasDeleted refound
@@ -101,7 +101,7 @@ farms-carried = refl
 
 -- as their keys do
 pub farms-refound : carried 4 (negsuc 3) spread ≡ refound farms (outcome (deletion 10) farms .table) spread
-unfolding least someBelow nearest shortest countOk levelOk runOf sizeOf sizeOk kindOk hasName nameOk rowOf keyOk restOk
+unfolding least someBelow nearest shortest countOk levelOk runOf sizeOf sizeOk kindOk hasName nameOk rowOf keyOk besideKeyOk
     rowOk firstBad parent above ancestor otherRoot given givenAt next tableCheck keyCheck deleteCheck editIf editCheck
     deleteOutcome minus deleteDone gapOf
 farms-refound = carry-refinds (deletion 10) farms takesFirst refl spread spread-inside

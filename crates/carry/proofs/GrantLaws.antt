@@ -26,12 +26,12 @@ use Rattle.tree.proofs.EditLaws.{row-key}
 use Rattle.tree.proofs.FindLaws.{find-row, find-found, find-none}
 use Rattle.tree.proofs.StepLaws.{In}
 use Rattle.tree.proofs.CarryLaws.{carried-in, carried-same}
-use Rattle.commute.specs.Act.{Act, outcome}
-use Rattle.commute.specs.Again.{goes}
-use Rattle.commute.proofs.FoundAgain.{edited-sound, row-again}
-use Rattle.commute.proofs.GoneLaws.{gone}
-use Rattle.carry.specs.Refound.{againAt, refound, stillThere, byKey}
-use Rattle.carry.proofs.MoveLaws.{moved-to-is, deleted-goes}
+use Rattle.after_edit.specs.Act.{Act, outcome}
+use Rattle.after_edit.specs.Survives.{goes}
+use Rattle.after_edit.proofs.FoundAgain.{edited-sound, row-again}
+use Rattle.after_edit.proofs.GoneLaws.{gone}
+use Rattle.carry.specs.Refound.{refoundAt, refound, stillThere, byKey}
+use Rattle.carry.proofs.EditMoveLaws.{moved-to-is, deleted-goes}
 
 -- ── carrying is finding again ──
 -- every pair's row is a row of the table: what refusal 5 leaves
@@ -41,17 +41,17 @@ Inside t ps = (p : Pair) → In p ps → p .row < t .count
 module _ (a : Act) (t : Table) (d : Done) (e : outcome a t .answer ≡ Made d) where
   -- a row that goes is not found again, and any other is found where carrying puts it
   row-refound : (w : ℕ) → w < t .count → (b : Bool) → goes a t w ≡ b
-      → (not (ltb (againAt t (outcome a t .table) w) (outcome a t .table .count)) ≡ b)
-      × (b ≡ false → natAbs (rowAfter (d .first) (d .moved) w) ≡ againAt t (outcome a t .table) w)
+      → (not (ltb (refoundAt t (outcome a t .table) w) (outcome a t .table .count)) ≡ b)
+      × (b ≡ false → natAbs (rowAfter (d .first) (d .moved) w) ≡ refoundAt t (outcome a t .table) w)
   row-refound w l true g =
       let n = find-none (outcome a t .table) (at (t .key) w) .0 (gone a t d e w l g) in
       (ap not (no-key (outcome a t .table) (at (t .key) w) .1 (n .1)), λ z. absurd (true≢false z))
   row-refound w l false g =
       let u : Table = outcome a t .table in
       let (v, r) = row-again a t d e w l g in
-      let q : againAt t (outcome a t .table) w ≡ v =
+      let q : refoundAt t (outcome a t .table) w ≡ v =
       ap (rowOf (u .key) (u .count)) (sym (r .key)) ∙ find-at u (edited-sound a t (d, e)) v (r .in-use) in (
-        ap not (lt-ltb (againAt t u w) (u .count) (omega (arith, r .in-use))),
+        ap not (lt-ltb (refoundAt t u w) (u .count) (omega (arith, r .in-use))),
         λ z. ap natAbs (sym (r .moved ∙ moved-to-is d w)) ∙ sym q,
       )
 
@@ -90,11 +90,11 @@ module _ (a : Act) (t : Table) (d : Done) (e : outcome a t .answer ≡ Made d) w
 refound-keys : (t u : Table) (ps : List Pair) → byKey u (refound t u ps) ≡ byKey t (stillThere t u ps)
 unfolding refound stillThere carriedBy
 refound-keys t u [] = refl
-refound-keys t u (p ∷ ps) = go (ltb (againAt t u (p .row)) (u .count)) refl (refound-keys t u ps)
+refound-keys t u (p ∷ ps) = go (ltb (refoundAt t u (p .row)) (u .count)) refl (refound-keys t u ps)
   where
-    go : (b : Bool) → ltb (againAt t u (p .row)) (u .count) ≡ b
+    go : (b : Bool) → ltb (refoundAt t u (p .row)) (u .count) ≡ b
         → byKey u (refound t u ps) ≡ byKey t (stillThere t u ps)
-        → byKey u (cond (not b) (refound t u ps) (pair (p .role) (againAt t u (p .row)) ∷ refound t u ps))
+        → byKey u (cond (not b) (refound t u ps) (pair (p .role) (refoundAt t u (p .row)) ∷ refound t u ps))
         ≡ byKey t (cond (not b) (stillThere t u ps) (pair (p .role) (p .row) ∷ stillThere t u ps))
     go true e ih =
         ap₂ (λ (k : ℕ) (l : List Pair). pair (p .role) k ∷ l) (row-key u (at (t .key) (p .row)) (ltb-true _ _ e)) ih
@@ -124,15 +124,15 @@ refound-in t u s ps q = (there, back)
         → (w : ℕ) × In (pair (q .role) w) ps × (q .row < u .count) × (at (u .key) (q .row) ≡ at (t .key) w)
     there i =
         let (w, j, g, f) = carried-in _ _ q ps .0 i in
-        let l : againAt t u w < u .count = ltb-true _ _ (not-false _ g) in
+        let l : refoundAt t u w < u .count = ltb-true _ _ (not-false _ g) in
         (w, j, omega arith, ap (at (u .key)) f ∙ row-key u (at (t .key) w) l)
 
     back : (w : ℕ) × In (pair (q .role) w) ps × (q .row < u .count) × (at (u .key) (q .row) ≡ at (t .key) w)
         → In q (refound t u ps)
     back h =
         let (w, j, l, k) = h in
-        let f : againAt t u w ≡ q .row = ap (rowOf (u .key) (u .count)) (sym k) ∙ find-at u s (q .row) l in
-        carried-in _ _ q ps .1 (w, j, ap not (lt-ltb (againAt t u w) (u .count) (omega arith)), sym f)
+        let f : refoundAt t u w ≡ q .row = ap (rowOf (u .key) (u .count)) (sym k) ∙ find-at u s (q .row) l in
+        carried-in _ _ q ps .1 (w, j, ap not (lt-ltb (refoundAt t u w) (u .count) (omega arith)), sym f)
 
 -- after the edit a role holds exactly the keys that it held, but for those gone
 pub grants-stay : (a : Act) (t : Table) (d : Done) → outcome a t .answer ≡ Made d → (ps : List Pair) → Inside t ps

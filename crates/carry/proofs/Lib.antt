@@ -1,9 +1,9 @@
 pub mod SignedLaws
-pub mod LeftLaws
+pub mod StayLaws
 pub mod WriteLaws
-pub mod LeavesLaws
-pub mod MoveLaws
+pub mod CarryLeavesLaws
+pub mod EditMoveLaws
 pub mod GrantLaws
-pub mod TurnLaws
+pub mod CarryBothLaws
 pub mod CircleLaws
 pub mod FarmOrder

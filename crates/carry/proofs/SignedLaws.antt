@@ -15,7 +15,7 @@ use mir.Val.{SFits, toZ, ofZ}
 use mir.Facts.{toZ-pos, toZ-ofZ}
 use Rattle.tree.specs.Carry.{moveOk}
 use Rattle.tree.specs.CarryRules.{MoveFits}
-use Rattle.tree.proofs.MoveLaws.{move-adds, move-ok}
+use Rattle.tree.proofs.RowMoveLaws.{move-adds, move-ok}
 use Rattle.tree.proofs.CarryAccept.{count-moves}
 
 -- the difference of two row numbers is no further from 0 than their sum

@@ -19,10 +19,10 @@ use Rattle.tree.specs.Carry.{rowAfter, carriedBy, carried}
 use Rattle.tree.specs.CarryRules.{newRow, goneRow}
 use Rattle.tree.proofs.CarryLaws.{carried-gone, carried-stays, carried-append, carried-most}
 use Rattle.tree.proofs.PairColumns.{length-roles, length-rows, roles-append, rows-append, length-pairs, pairs-at}
-use Rattle.carry.specs.declared.pairs.Move.{Move}
-use Rattle.carry.specs.Left.{Ready, Carries, doneOf, Begins, Writing}
-use Rattle.carry.specs.Left.{Filled, filled, put, puts, Room, Puts}
-use Rattle.carry.proofs.LeftLaws.{left-carried, row-to, carried-to}
+use Rattle.carry.specs.declared.writing.Move.{Move}
+use Rattle.carry.specs.Left.{Ready, Carries, carriedUpTo, Begins, Writing}
+use Rattle.carry.specs.Left.{Filled, filled, put, puts, PutRoom, Puts}
+use Rattle.carry.proofs.StayLaws.{left-carried, row-to, carried-to}
 
 -- ── a column ──
 -- written at the place n, which counts only where it is kept
@@ -105,13 +105,13 @@ module _ (role row : List ℕ) (m : Move) (left : ℕ) (oldRole oldRow : List �
       abbrev rest : List Pair
       rest = carriedBy gone new (drop i (pairsOf role row))
 
-      split : all ≡ doneOf role row m i ++ rest
+      split : all ≡ carriedUpTo role row m i ++ rest
       split =
           ap (carriedBy gone new) (sym (take-append-drop i (pairsOf role row)))
           ∙ carried-append gone new (take i (pairsOf role row)) (drop i (pairsOf role row))
 
-      lengths : length (doneOf role row m i) + length rest ≡ left
-      lengths = sym (length-append (doneOf role row m i) rest) ∙ ap length (sym split) ∙ all-left
+      lengths : length (carriedUpTo role row m i) + length rest ≡ left
+      lengths = sym (length-append (carriedUpTo role row m i) rest) ∙ ap length (sym split) ∙ all-left
 
       -- no more are written than there are
       pub writing-most : n ≤ left
@@ -139,30 +139,30 @@ module _ (role row : List ℕ) (m : Move) (left : ℕ) (oldRole oldRow : List �
       writing-room l = (omega (arith, s .roles, w .roles .long), omega (arith, s .rows, w .rows .long))
 
       -- one place more
-      next-done : i < length role → doneOf role row m (i + 1)
-          ≡ cond (gone (at row i)) (doneOf role row m i)
-          (doneOf role row m i ++ (pair (at role i) (new (at row i)) ∷ []))
+      next-done : i < length role → carriedUpTo role row m (i + 1)
+          ≡ cond (gone (at row i)) (carriedUpTo role row m i)
+          (carriedUpTo role row m i ++ (pair (at role i) (new (at row i)) ∷ []))
       unfolding carriedBy
       next-done l =
-          ap (λ (k : ℕ). doneOf role row m k) (add-one i)
+          ap (λ (k : ℕ). carriedUpTo role row m k) (add-one i)
           ∙ ap (carriedBy gone new) (take-suc (pairsOf role row) i (pair 0 0)
           (omega (arith, length-pairs role row (s .pairs .even))))
           ∙ carried-append gone new (take i (pairsOf role row)) _
-          ∙ ap (λ (p : Pair). doneOf role row m i
+          ∙ ap (λ (p : Pair). carriedUpTo role row m i
           ++ carriedBy gone new (p ∷ []))
           (pairs-at role row i l (omega (arith, s .pairs .even)))
           ∙ one (gone (at row i)) refl
         where
           one : (b : Bool) → gone (at row i) ≡ b
-              → doneOf role row m i
+              → carriedUpTo role row m i
               ++ carriedBy gone new (pair (at role i) (at row i) ∷ [])
-              ≡ cond b (doneOf role row m i)
-              (doneOf role row m i ++ (pair (at role i) (new (at row i)) ∷ []))
+              ≡ cond b (carriedUpTo role row m i)
+              (carriedUpTo role row m i ++ (pair (at role i) (new (at row i)) ∷ []))
           one true e =
-              ap (λ (ps : List Pair). doneOf role row m i ++ ps)
+              ap (λ (ps : List Pair). carriedUpTo role row m i ++ ps)
               (carried-gone gone new (pair (at role i) (at row i)) [] e)
-              ∙ append-nil (doneOf role row m i)
-          one false e = ap (λ (ps : List Pair). doneOf role row m i ++ ps)
+              ∙ append-nil (carriedUpTo role row m i)
+          one false e = ap (λ (ps : List Pair). carriedUpTo role row m i ++ ps)
               (carried-stays gone new (pair (at role i) (at row i)) [] e)
 
       -- the pair at place i written to place n, which counts only where the pair stays
@@ -170,14 +170,14 @@ module _ (role row : List ℕ) (m : Move) (left : ℕ) (oldRole oldRow : List �
           → Writing role row m left oldRole oldRow (set outRole n (at role i)) (set outRow n v)
           (n + cond (gone (at row i)) 0 1) (i + 1)
       writing-more v e l =
-          let done : List Pair = doneOf role row m i in
+          let done : List Pair = carriedUpTo role row m i in
           let b : Bool = gone (at row i) in
           let p : Pair = pair (at role i) (new (at row i)) in
           let r : i < length role = writing-reads l in
           let q : pos v ≡ pos (new (at row i)) =
           e ∙ row-to (m .old) (m .first) (m .moved) (m .to) (s .move) (s .lands) (at row i) in
           let x : v ≡ new (at row i) = cc in
-          let d : cond b done (done ++ (p ∷ [])) ≡ doneOf role row m (i + 1) = sym (next-done r) in
+          let d : cond b done (done ++ (p ∷ [])) ≡ carriedUpTo role row m (i + 1) = sym (next-done r) in
           rw x (record {
             within = omega arith;
             many = ap (λ (k : ℕ). k + cond b 0 1) (w .many) ∙ length-one b done p ∙ ap length d;
@@ -192,16 +192,16 @@ module _ (role row : List ℕ) (m : Move) (left : ℕ) (oldRole oldRow : List �
       writing-done l =
           let z : length rest ≡ 0 = omega (arith, w .many, lengths) in
           let y : n ≡ left = omega (arith, w .many, lengths) in
-          let d : doneOf role row m i ≡ carried (m .first) (m .moved) (pairsOf role row) =
-          sym (split ∙ ap (λ (ps : List Pair). doneOf role row m i ++ ps) (no-pairs rest z)
-          ∙ append-nil (doneOf role row m i))
+          let d : carriedUpTo role row m i ≡ carried (m .first) (m .moved) (pairsOf role row) =
+          sym (split ∙ ap (λ (ps : List Pair). carriedUpTo role row m i ++ ps) (no-pairs rest z)
+          ∙ append-nil (carriedUpTo role row m i))
           ∙ sym (carried-to (m .old) (m .first) (m .moved) (m .to) (s .move) (s .lands) (pairsOf role row)) in
-          let k : length (doneOf role row m i) ≡ left = sym (w .many) ∙ y in
+          let k : length (carriedUpTo role row m i) ≡ left = sym (w .many) ∙ y in
           record {
-            role-is = rw (← d) (begins-all (length-roles (doneOf role row m i) ∙ k)
-                (subst (λ (j : ℕ). Begins (rolesOf (doneOf role row m i)) oldRole left j outRole) y (w .roles)));
-            row-is = rw (← d) (begins-all (length-rows (doneOf role row m i) ∙ k)
-                (subst (λ (j : ℕ). Begins (rowsOf (doneOf role row m i)) oldRow left j outRow) y (w .rows)));
+            role-is = rw (← d) (begins-all (length-roles (carriedUpTo role row m i) ∙ k)
+                (subst (λ (j : ℕ). Begins (rolesOf (carriedUpTo role row m i)) oldRole left j outRole) y (w .roles)));
+            row-is = rw (← d) (begins-all (length-rows (carriedUpTo role row m i) ∙ k)
+                (subst (λ (j : ℕ). Begins (rowsOf (carriedUpTo role row m i)) oldRow left j outRow) y (w .rows)));
           }
 
 -- ── a few pairs ──
@@ -243,7 +243,7 @@ module _ (role row : List ℕ) (m : Move) (left : ℕ) (oldRole oldRow : List �
     (s : Ready role row m left oldRole oldRow) {outRole outRow : List ℕ} {n i : ℕ}
     (w : Writing role row m left oldRole oldRow outRole outRow n i) where
   -- while k are left there is room for k
-  pub writing-fits : (k : ℕ) → n + k ≤ left → Room k role row m i n outRole outRow
+  pub writing-fits : (k : ℕ) → n + k ≤ left → PutRoom k role row m i n outRole outRow
   writing-fits k l = record {
     few = s .few;
     pairs = s .pairs;

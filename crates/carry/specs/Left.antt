@@ -6,13 +6,13 @@ use mathlib.Core.List.{List, [], _∷_}
 use Prim.Native.Nat.{ℕ, zero, suc, _+_, _≤_}
 use lib.IntN.{ℤ, pos, natAbs, _+ℤ_}
 use lib.ListN.{length, take, drop, set}
-use Rattle.tree.specs.Table.{at}
+use Rattle.tree.specs.Table.{mostRows, at}
 use Rattle.tree.specs.Pairs.{Pair, pairsOf, rolesOf, rowsOf}
 use Rattle.tree.specs.StepRules.{PairsFit}
 use Rattle.tree.specs.Outcome.{overwritten}
 use Rattle.tree.specs.Carry.{rowAfter, carriedBy, carried, moveOk}
 use Rattle.tree.specs.CarryRules.{newRow, goneRow}
-use Rattle.carry.specs.declared.pairs.Move.{Move}
+use Rattle.carry.specs.declared.writing.Move.{Move}
 
 -- the old count, the first moved row, its move and where it went, as one
 abbrev pub moveOf : ℕ → ℕ → ℤ → ℕ → Move
@@ -25,7 +25,7 @@ leftOf to first (w ∷ ws) = cond (goneRow to first w) 0 1 + leftOf to first ws
 
 -- refusals 1, 3 to 5, 17 and 8 do not apply; `to` is where the first moved row went, and so many pairs are left
 pub record Ready (role row : List ℕ) (m : Move) (left : ℕ) (outRole outRow : List ℕ) : Type 0 where
-  pub few : m .old ≤ 4096
+  pub few : m .old ≤ mostRows
   pub pairs : PairsFit role row (m .old)
   pub move : moveOk (m .old) (m .first) (m .moved) ≡ true
   pub lands : pos (m .first) +ℤ m .moved ≡ pos (m .to)
@@ -62,8 +62,8 @@ puts zero role row m i s = s
 puts (suc k) role row m i s = put role row m (i + k) (puts k role row m i s)
 
 -- k pairs from place i on can be read, and written from place n on
-pub record Room (k : ℕ) (role row : List ℕ) (m : Move) (i n : ℕ) (outRole outRow : List ℕ) : Type 0 where
-  pub few : m .old ≤ 4096
+pub record PutRoom (k : ℕ) (role row : List ℕ) (m : Move) (i n : ℕ) (outRole outRow : List ℕ) : Type 0 where
+  pub few : m .old ≤ mostRows
   pub pairs : PairsFit role row (m .old)
   pub move : moveOk (m .old) (m .first) (m .moved) ≡ true
   pub read : i + k ≤ length role
@@ -78,8 +78,8 @@ pub record Puts (k : ℕ) (role row : List ℕ) (m : Move) (i n : ℕ) (oldRole 
 
 -- ── the first places ──
 -- the carried pairs of the first i places
-abbrev pub doneOf : List ℕ → List ℕ → Move → ℕ → List Pair
-doneOf role row m i = carriedBy (goneRow (m .to) (m .first)) (newRow (m .to) (m .first)) (take i (pairsOf role row))
+abbrev pub carriedUpTo : List ℕ → List ℕ → Move → ℕ → List Pair
+carriedUpTo role row m i = carriedBy (goneRow (m .to) (m .first)) (newRow (m .to) (m .first)) (take i (pairsOf role row))
 
 -- a result column that begins with xs, n in number, and is as it was behind the first `left` places
 pub record Begins (xs old : List ℕ) (left n : ℕ) (new : List ℕ) : Type 0 where
@@ -91,6 +91,6 @@ pub record Begins (xs old : List ℕ) (left n : ℕ) (new : List ℕ) : Type 0 w
 pub record Writing (role row : List ℕ) (m : Move) (left : ℕ) (oldRole oldRow outRole outRow : List ℕ) (n i : ℕ)
     : Type 0 where
   pub within : i ≤ length role
-  pub many : n ≡ length (doneOf role row m i)
-  pub roles : Begins (rolesOf (doneOf role row m i)) oldRole left n outRole
-  pub rows : Begins (rowsOf (doneOf role row m i)) oldRow left n outRow
+  pub many : n ≡ length (carriedUpTo role row m i)
+  pub roles : Begins (rolesOf (carriedUpTo role row m i)) oldRole left n outRole
+  pub rows : Begins (rowsOf (carriedUpTo role row m i)) oldRow left n outRow

@@ -1,4 +1,4 @@
-pub mod Leaves
+pub mod CarryLeaves
 pub mod Moves
 pub mod Left
 pub mod Refound

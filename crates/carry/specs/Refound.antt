@@ -1,5 +1,5 @@
 -- A list of pairs by its keys: what carrying means. That carrying over an accepted edit gives this list is
--- `carry-refinds` (proofs/GrantLaws.antt), over two in turn `carry-both` (proofs/TurnLaws.antt). Assumes nothing.
+-- `carry-refinds` (proofs/GrantLaws.antt), over two in turn `carry-both` (proofs/CarryBothLaws.antt). Assumes nothing.
 use Prim.Native.Nat.{ℕ, _<_}
 use mathlib.Core.Bool.{not}
 use mathlib.Core.List.{List, map}
@@ -11,16 +11,16 @@ use Rattle.tree.specs.Pairs.{Pair, pair}
 use Rattle.tree.specs.Carry.{carriedBy}
 
 -- the row that has in the table u the key of row w of the table t; u's count where none has it
-abbrev pub againAt : Table → Table → ℕ → ℕ
-againAt t u w = rowOf (u .key) (u .count) (at (t .key) w)
+abbrev pub refoundAt : Table → Table → ℕ → ℕ
+refoundAt t u w = rowOf (u .key) (u .count) (at (t .key) w)
 
 -- the pairs of the table t whose key the table u has, each on the row that has it there
 unfoldable pub refound : Table → Table → List Pair → List Pair
-refound t u ps = carriedBy (λ w. not (ltb (againAt t u w) (u .count))) (againAt t u) ps
+refound t u ps = carriedBy (λ w. not (ltb (refoundAt t u w) (u .count))) (refoundAt t u) ps
 
 -- the pairs of the table t whose key the table u has, as they stand in t
 unfoldable pub stillThere : Table → Table → List Pair → List Pair
-stillThere t u ps = carriedBy (λ w. not (ltb (againAt t u w) (u .count))) (λ w. w) ps
+stillThere t u ps = carriedBy (λ w. not (ltb (refoundAt t u w) (u .count))) (λ w. w) ps
 
 -- the role and the key of each pair
 abbrev pub byKey : Table → List Pair → List Pair

@@ -43,7 +43,7 @@ fn check_pairs_and_move(
     ensures { λ r. ⌜ r ≡ next (pairCheck (now (role .entry)) (now (row .entry)) «old_count»)
         (given (not (moveOk «old_count» first moved)) 17 0) ⌝ }
 {
-    let checked = check_pairs(role, row, old_count);
+    let checked = check_pairs(old_count, role, row);
     match checked {
         Checked::Refused(number, place) => Checked::Refused(number, place),
         Checked::Passed => {

@@ -1,13 +1,13 @@
 // Pairs of role and row carried over an edit, so that each names the same key as before: document 02, E1. Nothing is
 // written before it is known that all of it fits.
 ghost use Rattle.tree.specs.Carry.{carryOutcome};
-ghost use Rattle.carry.specs.Leaves.{Leaves};
+ghost use Rattle.carry.specs.CarryLeaves.{CarryLeaves};
 
 mod checks; // checks.rt: refusals 1, 3 to 5 and 17
 mod moved; // moved.rt: a row after the edit
-mod pairs; // pairs.rt: all pairs
+mod writing; // writing.rt: all pairs
 
-use crate::pairs::Move;
+use crate::writing::Move;
 use tree::Carried;
 use tree::Checked;
 use tree::logic::smaller;
@@ -23,7 +23,7 @@ pub fn carry(
     out_role: &mut [usize],
     out_row: &mut [usize],
 ) -> Carried
-    ensures { λ r. ⌜ Leaves (carryOutcome (now (role .entry)) (now (row .entry)) «old_count» first moved
+    ensures { λ r. ⌜ CarryLeaves (carryOutcome (now (role .entry)) (now (row .entry)) «old_count» first moved
         (now («out_role» .entry)) (now («out_row» .entry)))
         r (now («out_role» .exit)) (now («out_row» .exit)) ⌝ }
 {
@@ -32,7 +32,7 @@ pub fn carry(
         Checked::Refused(number, place) => Carried::Refused(number, place),
         Checked::Passed => {
             let to = moved::moved_to(old_count, first, moved, first);
-            let left = pairs::count_left(row, to, first);
+            let left = writing::count_left(row, to, first);
             if smaller(out_role.len(), out_row.len()) < left {
                 return Carried::Refused(8, left);
             }
@@ -42,7 +42,7 @@ pub fn carry(
                 moved,
                 to,
             };
-            pairs::write(role, row, edit, left, out_role, out_row);
+            writing::write(role, row, edit, left, out_role, out_row);
             Carried::Written(left)
         }
     }

@@ -21,7 +21,7 @@ use Rattle.tree.proofs.TreeLaws.{less?}
 use Rattle.tree.proofs.SoundLaws.{both, both-of, either, either-left, either-right}
 use Rattle.tree.proofs.AxisLaws.{same-test, ancestor-is}
 use Rattle.span.specs.Want.{fits}
-use Rattle.span.specs.Reach.{anyOn, oneRole, RoleIn, Parents, Wrote}
+use Rattle.span.specs.OneRole.{anyOn, oneRole, RoleIn, Parents, Wrote}
 use Rattle.span.specs.Range.{Appended}
 use Rattle.span.proofs.AppendedLaws.{appended-as}
 use Rattle.span.proofs.RangeLaws.{contexts-rise, any-hit, any-miss, Covered, cover-start, cover-done}
@@ -30,6 +30,7 @@ use Rattle.direct.specs.Path.{onPath}
 use Rattle.direct.specs.Above.{wayUp, wayStart, WayIn}
 use Rattle.direct.proofs.ClimbLaws.{parent-low, ancestor-path, way-rows}
 use Rattle.direct.proofs.AncestorLaws.{axis-ancestor, axis-path}
+use Rattle.span.specs.declared.want.Want.{Want}
 
 -- ── the axes ──
 module _ {size level : List ℕ} {n : ℕ} (s : Shape size level n) where
@@ -85,10 +86,10 @@ pub record Ascent (own : ℕ) (level : List ℕ) (n : ℕ) (test : ℕ → Bool)
   pub passed : (j : ℕ) → j < i → at cs j + own ≤ floor
   pub ahead : (j : ℕ) → i ≤ j → j < length cs → floor ≤ at cs j + own
 
-module _ {own : ℕ} (o : own ≤ 1) {size level kind name : List ℕ} {n wk wn : ℕ} {cs d : List ℕ}
-    (pre : RoleIn (6 + own) size level kind name n wk wn cs d) where
+module _ {own : ℕ} (o : own ≤ 1) {size level kind name : List ℕ} {n : ℕ} {want : Want} {cs d : List ℕ}
+    (pre : RoleIn (6 + own) size level kind name n cs want d) where
   abbrev test : ℕ → Bool
-  test = fits wk wn kind name
+  test = fits want kind name
 
   -- a row after the rows of a context
   late : (c w : ℕ) → c < n → w < n → c + own ≤ w → onAxis (6 + own) level c w ≡ false
@@ -160,7 +161,7 @@ module _ {own : ℕ} (o : own ≤ 1) {size level kind name : List ℕ} {n wk wn 
       end : C + own ≤ n
       end = omega (arith, here)
 
-      pub ascent-asks : {up : List ℕ} → Parents level n up → WayIn size level kind name up n floor a wk wn out next
+      pub ascent-asks : {up : List ℕ} → Parents level n up → WayIn size level kind name n up floor a want out next
       ascent-asks p = record {
         shape = pre .shape;
         parents = p;

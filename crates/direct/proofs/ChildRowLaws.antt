@@ -1,5 +1,5 @@
 -- The children of a row, written as they are met by hops over subtrees (`Walked`): at the start (`walk-start`), past
--- one that does not pass (`walk-no`), with one that does (`walk-place`, `walk-yes`), several at once (`walk-asks`,
+-- one that does not pass (`walk-no`), with one that does (`walk-room`, `walk-yes`), several at once (`walk-asks`,
 -- `walk-on`), and at the end (`walk-done`); the column keeps its length (`walk-length`). Assumes nothing.
 use Prim.Native.Nat.{ℕ, suc, _+_, _<_, _≤_}
 use mathlib.Core.Path.{_≡_, sym, ap, ap₂, subst, _∙_}
@@ -21,7 +21,8 @@ use Rattle.span.proofs.AppendedLaws.{appended-as, appended-none, appended-more,
 use Rattle.span.proofs.ScanLaws.{rows-cut, rows-skip, rows-one}
 use Rattle.span.proofs.SideLaws.{nests}
 use Rattle.direct.specs.Children.{childThat, ChildOrEnd, ChildrenIn}
-use Rattle.marks.proofs.HopLaws.{row-in-use, child-next, child-none}
+use Rattle.marks.proofs.ChildWalkLaws.{row-in-use, child-next, child-none}
+use Rattle.span.specs.declared.want.Want.{Want}
 
 -- ── children that pass ──
 module _ (test : ℕ → Bool) (level : List ℕ) (p w : ℕ) where
@@ -36,18 +37,18 @@ module _ (test : ℕ → Bool) (level : List ℕ) (p w : ℕ) where
 
 -- of the children of p from row a on, and before row e, those before row v that pass are appended; v is the next child,
 -- or the end
-pub record Walked (size level : List ℕ) (test : ℕ → Bool) (p a e : ℕ) (old : List ℕ) (place : ℕ) (out : List ℕ)
+pub record Walked (size level : List ℕ) (test : ℕ → Bool) (p a e : ℕ) (old : List ℕ) (written : ℕ) (out : List ℕ)
     (v next : ℕ) : Type 0 where
   pub low : a ≤ v
   pub high : v ≤ e
   pub here : ChildOrEnd size level p v
-  pub appends : Appended (rowsIn (childThat test level p) a v) old place next out
+  pub appends : Appended (rowsIn (childThat test level p) a v) old written next out
 
-module _ {size level kind name : List ℕ} {n p a e wk wn : ℕ} {old : List ℕ} {place : ℕ}
-    (h : ChildrenIn size level kind name n p a e wk wn old place) where
+module _ {size level kind name : List ℕ} {n p a e : ℕ} {want : Want} {old : List ℕ} {written : ℕ}
+    (h : ChildrenIn size level kind name n p a e want old written) where
   -- the test, and the children that pass
   abbrev test : ℕ → Bool
-  test = fits wk wn kind name
+  test = fits want kind name
 
   abbrev passing : ℕ → Bool
   passing = childThat test level p
@@ -57,15 +58,15 @@ module _ {size level kind name : List ℕ} {n p a e wk wn : ℕ} {old : List ℕ
   walk-row v l = row-in-use (h .shape) (h .row) (h .to .last) v l
 
   -- none is written yet
-  pub walk-start : Walked size level test p a e old place old a place
+  pub walk-start : Walked size level test p a e old written old a written
   walk-start = record {
     low = le-refl a;
     high = h .order;
     here = h .from;
-    appends = appended-as (sym (rows-skip passing a a (λ w x y. absurd (omega arith)))) (appended-none old place);
+    appends = appended-as (sym (rows-skip passing a a (λ w x y. absurd (omega arith)))) (appended-none old written);
   }
 
-  module _ {out : List ℕ} {v next : ℕ} (s : Walked size level test p a e old place out v next) where
+  module _ {out : List ℕ} {v next : ℕ} (s : Walked size level test p a e old written out v next) where
     -- those written and those to come
     in-all : length (rowsIn passing a e) ≡ length (rowsIn passing a v) + length (rowsIn passing v e)
     in-all =
@@ -77,7 +78,7 @@ module _ {size level kind name : List ℕ} {n p a e wk wn : ℕ} {old : List ℕ
     walk-length = appended-length (s .appends) (omega (arith, in-all, h .room))
 
     -- those to come can be written
-    pub walk-asks : ChildrenIn size level kind name n p v e wk wn out next
+    pub walk-asks : ChildrenIn size level kind name n p v e want out next
     walk-asks = record {
       shape = h .shape;
       row = h .row;
@@ -91,7 +92,7 @@ module _ {size level kind name : List ℕ} {n p a e wk wn : ℕ} {old : List ℕ
 
     -- several more
     pub walk-on : {r then : ℕ} {new : List ℕ} → v < r → r ≤ e → ChildOrEnd size level p r
-        → Appended (rowsIn passing v r) out next then new → Walked size level test p a e old place new r then
+        → Appended (rowsIn passing v r) out next then new → Walked size level test p a e old written new r then
     walk-on {r} l m c d = record {
       low = omega (arith, s .low);
       high = m;
@@ -101,7 +102,7 @@ module _ {size level kind name : List ℕ} {n p a e wk wn : ℕ} {old : List ℕ
     }
 
     -- no child is left
-    pub walk-done : e ≤ v → Appended (rowsIn passing a e) old place next out
+    pub walk-done : e ≤ v → Appended (rowsIn passing a e) old written next out
     walk-done l = let q : v ≡ e = omega (arith, s .high) in appended-as (ap (rowsIn passing a) q) (s .appends)
 
     module _ (l : v < e) where
@@ -147,15 +148,15 @@ module _ {size level kind name : List ℕ} {n p a e wk wn : ℕ} {old : List ℕ
           rows-cut passing a v N (s .low) (omega arith) ∙ ap (λ (xs : List ℕ). rowsIn passing a v ++ xs) one
 
       -- past v
-      past : {then r : ℕ} {new : List ℕ} → r ≡ v + at size v + 1 → Appended (rowsIn passing a N) old place then new
-          → Walked size level test p a e old place new r then
+      past : {then r : ℕ} {new : List ℕ} → r ≡ v + at size v + 1 → Appended (rowsIn passing a N) old written then new
+          → Walked size level test p a e old written new r then
       past {then} {new = new} q d =
-          subst (λ (x : ℕ). Walked size level test p a e old place new x then) (sym q)
+          subst (λ (x : ℕ). Walked size level test p a e old written new x then) (sym q)
           (record { low = omega (arith, s .low); high = not-past; here = next-child; appends = d })
 
       -- v does not pass
       pub walk-no : {r : ℕ} → test v ≡ false → r ≡ v + at size v + 1
-          → Walked size level test p a e old place out r next
+          → Walked size level test p a e old written out r next
       walk-no t q = past q (appended-as
           (sym (more ∙ ap (λ (xs : List ℕ). rowsIn passing a v ++ xs) (only-none (test v) v t)
           ∙ append-nil (rowsIn passing a v)))
@@ -176,10 +177,10 @@ module _ {size level kind name : List ℕ} {n p a e wk wn : ℕ} {old : List ℕ
         )
 
         -- there is a place for it
-        pub walk-place : next < length out
-        walk-place = omega (arith, fewer, walk-length)
+        pub walk-room : next < length out
+        walk-room = omega (arith, fewer, walk-length)
 
         -- it passes
         pub walk-yes : {r : ℕ} → r ≡ v + at size v + 1
-            → Walked size level test p a e old place (set out next v) r (next + 1)
+            → Walked size level test p a e old written (set out next v) r (next + 1)
         walk-yes q = past q (appended-as (sym with-it) (appended-more v (s .appends) fewer))

@@ -1,7 +1,7 @@
 -- The ancestors of a row in rows whose levels and sizes make trees: `parent-low`, `ancestor-path`. The rows on a path:
 -- `path-before`, `path-own`, `path-above`. Those of them that are new: `way-..`. The walk that appends these, parent by
 -- parent: `climb-start`, `climb-yes` and `climb-no` for a row, `climb-less`, `climb-done`; what a turn asks for,
--- `climb-place` and `climb-length`; and where it ends, `climb-end`. Assumes nothing.
+-- `climb-room` and `climb-length`; and where it ends, `climb-end`. Assumes nothing.
 use Prim.Native.Nat.{ℕ, zero, suc, _+_, _<_, _≤_}
 use mathlib.Core.Path.{_≡_, refl, sym, ap, ap₂, subst, _∙_}
 use mathlib.Core.Logic.{⊎-elim}
@@ -27,6 +27,7 @@ use Rattle.span.proofs.ScanLaws.{rows-same, rows-ended, rows-last, rows-empty}
 use Rattle.span.proofs.AppendedLaws.{appended-as, appended-none, appended-more, appended-length}
 use Rattle.direct.specs.Path.{onPath}
 use Rattle.direct.specs.Above.{wayUp, WayIn}
+use Rattle.span.specs.declared.want.Want.{Want}
 
 -- a parent is an earlier row
 pub parent-low : (level : List ℕ) (v : ℕ) → parent level v ≤ v
@@ -96,8 +97,8 @@ module _ {size level : List ℕ} {n : ℕ} (s : Shape size level n) where
           (λ z. ancestor-trans w p v l z a)
           (either (eqb w p) (ancestor level w p) h)
 
-  -- a row on a path lies before its place
-  pub path-before : (place w : ℕ) → place ≤ n → onPath level place w ≡ true → w < place
+  -- a row on a path lies before its link
+  pub path-before : (link w : ℕ) → link ≤ n → onPath level link w ≡ true → w < link
   unfolding onPath
   path-before zero w l t = absurd (false≢true t)
   path-before (suc v) w l t = ⊎-elim
@@ -153,32 +154,32 @@ reverse-only true w = refl
 reverse-only false w = refl
 
 -- the rows met are appended, from the last to the first, and the others are those of the way up from a
-pub record Climbed (level : List ℕ) (n floor start : ℕ) (test : ℕ → Bool) (d : List ℕ) (place : ℕ) (out : List ℕ)
+pub record Climbed (level : List ℕ) (n floor start : ℕ) (test : ℕ → Bool) (d : List ℕ) (written : ℕ) (out : List ℕ)
     (next a : ℕ) : Type 0 where
   pub met : List ℕ
   pub low : a ≤ n
   pub split : reverse (wayUp level floor start test) ≡ met ++ reverse (wayUp level floor a test)
-  pub appends : Appended met d place next out
+  pub appends : Appended met d written next out
 
-module _ {size level kind name up : List ℕ} {n floor start wk wn : ℕ} {d : List ℕ} {place : ℕ}
-    (h : WayIn size level kind name up n floor start wk wn d place) where
+module _ {size level kind name up : List ℕ} {n floor start : ℕ} {want : Want} {d : List ℕ} {written : ℕ}
+    (h : WayIn size level kind name n up floor start want d written) where
   abbrev test : ℕ → Bool
-  test = fits wk wn kind name
+  test = fits want kind name
 
-  -- the rows from place a on that are new, as they are met
+  -- the rows from the link a on that are new, as they are met
   abbrev left : ℕ → List ℕ
   left a = reverse (wayUp level floor a test)
 
-  pub climb-start : Climbed level n floor start test d place d place start
-  climb-start = record { met = []; low = h .low; split = refl; appends = appended-none d place }
+  pub climb-start : Climbed level n floor start test d written d written start
+  climb-start = record { met = []; low = h .low; split = refl; appends = appended-none d written }
 
   -- what is appended in the end lies within the column
-  pub climb-end : {out : List ℕ} {r : ℕ} → Appended (left start) d place r out → r ≤ length out
+  pub climb-end : {out : List ℕ} {r : ℕ} → Appended (left start) d written r out → r ≤ length out
   climb-end g =
       let k = length-reverse (wayUp level floor start test) in
       omega (arith, g .many, h .room, appended-length g (omega (arith, h .room)))
 
-  module _ {out : List ℕ} {next a : ℕ} (s : Climbed level n floor start test d place out next a) where
+  module _ {out : List ℕ} {next a : ℕ} (s : Climbed level n floor start test d written out next a) where
     -- how many rows are met and left
     parts : length (wayUp level floor start test) ≡ length (s .met) + length (left a)
     parts =
@@ -189,7 +190,7 @@ module _ {size level kind name up : List ℕ} {n floor start wk wn : ℕ} {d : L
     pub climb-length : length out ≡ length d
     climb-length = appended-length (s .appends) (omega (arith, parts, h .room))
 
-    pub climb-done : a ≤ floor → Appended (reverse (wayUp level floor start test)) d place next out
+    pub climb-done : a ≤ floor → Appended (reverse (wayUp level floor start test)) d written next out
     climb-done l = appended-as
         (sym (s .split
         ∙ ap (λ (xs : List ℕ). s .met ++ reverse xs) (way-none level floor a test l)
@@ -215,7 +216,7 @@ module _ {size level kind name up : List ℕ} {n floor start wk wn : ℕ} {d : L
           ∙ ap₂ (λ (xs : List ℕ) (k : ℕ). xs ++ left k) (reverse-only (test v) v) (sym P-is)
 
       -- it does not fit
-      pub climb-no : test v ≡ false → Climbed level n floor start test d place out next (at up v)
+      pub climb-no : test v ≡ false → Climbed level n floor start test d written out next (at up v)
       climb-no f = record {
         met = s .met;
         low = omega (arith, climb-less, s .low);
@@ -234,10 +235,10 @@ module _ {size level kind name up : List ℕ} {n floor start wk wn : ℕ} {d : L
         room : next < length d
         room = omega (arith, s .appends .many, parts, ap length fitting, h .room)
 
-        pub climb-place : next < length out
-        climb-place = omega (arith, room, climb-length)
+        pub climb-room : next < length out
+        climb-room = omega (arith, room, climb-length)
 
-        pub climb-yes : Climbed level n floor start test d place (set out next v) (next + 1) (at up v)
+        pub climb-yes : Climbed level n floor start test d written (set out next v) (next + 1) (at up v)
         climb-yes = record {
           met = s .met ++ (v ∷ []);
           low = omega (arith, climb-less, s .low);

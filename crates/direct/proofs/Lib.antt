@@ -5,4 +5,4 @@ pub mod LoneLaws
 pub mod ReverseLaws
 pub mod AboveLaws
 pub mod ChildRowLaws
-pub mod EarlierLaws
+pub mod RisingLaws

@@ -6,6 +6,7 @@ use mathlib.Core.Path.{_≡_, sym, ap, ap₂, _∙_}
 use mathlib.Core.Logic.{_⊎_, inl, inr, ⊎-elim}
 use mathlib.Core.Bool.{Bool, true, false, _&&_, _||_, and-true, or-false}
 use mathlib.Core.List.{List, [], _∷_}
+use native.Mathlib.Nat.{eq-or-lt-of-le}
 use native.Mathlib.Numerals.{add-one}
 use native.Mathlib.Omega.{arith}
 use borrow.Author.Tests.{eqb-true, eq-eqb, ne-eqb}
@@ -17,7 +18,7 @@ use Rattle.tree.specs.Axis.{onAxis}
 use Rattle.tree.proofs.SearchLaws.{gather-ext}
 use Rattle.tree.proofs.SoundLaws.{both, either}
 use Rattle.span.specs.Want.{fits}
-use Rattle.span.specs.Reach.{anyOn, oneRole, Wrote}
+use Rattle.span.specs.OneRole.{anyOn, oneRole, Wrote}
 use Rattle.span.specs.Range.{rowsIn, Appended, RangeIn}
 use Rattle.direct.specs.Path.{onPath, pathRows, lonePath, PathIn, LoneIn}
 use Rattle.span.proofs.WantLaws.{fits-any}
@@ -26,6 +27,7 @@ use Rattle.direct.proofs.ClimbLaws.{parent-low, ancestor-path}
 use Rattle.marks.proofs.ParentLaws.{axis-parent}
 use Rattle.direct.proofs.AncestorLaws.{axis-ancestor, axis-path}
 use Rattle.direct.proofs.PathLaws.{path-above-count, path-own-count}
+use Rattle.span.specs.declared.want.Want.{Want}
 
 -- of one context, the rows on its axis
 any-one : (axis : ℕ) (level cs : List ℕ) (w : ℕ) → length cs ≡ 1
@@ -35,11 +37,41 @@ any-one axis level [] w e = absurd (omega arith)
 any-one axis level (c ∷ []) w e = or-false (onAxis axis level c w)
 any-one axis level (c ∷ d ∷ cs) w e = absurd (omega arith)
 
--- ── what the test says ──
-module _ (axis many wk wn : ℕ) (e : lonePath axis many wk wn ≡ true) where
+-- ── what the test asks ──
+module _ (many axis : ℕ) (want : Want) where
+  -- there is not one context
+  pub lone-many : (many ≡ 1 → ⊥) → lonePath many axis want ≡ false
+  unfolding lonePath
+  lone-many n = rw (ne-eqb many 1 n)
+
+  module _ (one : many ≡ 1) where
+    -- its parent is asked for
+    pub lone-parent : axis ≡ 5 → lonePath many axis want ≡ true
+    unfolding lonePath
+    lone-parent e = rw (one, e)
+
+    -- the way up is asked for: what is wanted decides
+    pub lone-above : 6 ≤ axis → axis ≤ 7 → lonePath many axis want ≡ (eqb (want .kind) 5 && eqb (want .name) 0)
+    unfolding lonePath
+    lone-above l m =
+        ⊎-elim (λ (e : axis ≡ 7). rw (one, e)) (λ (k : axis < 7). let e : axis ≡ 6 = omega arith in rw (one, e))
+        (eq-or-lt-of-le m)
+
+    -- another axis
+    pub lone-other : (axis ≡ 5 → ⊥) → (axis < 6) ⊎ (7 < axis) → lonePath many axis want ≡ false
+    unfolding lonePath
+    lone-other n out = simp (
+      eq-eqb many 1 one,
+      ne-eqb axis 5 n,
+      ne-eqb axis 6 (λ e. ⊎-elim (λ (l : axis < 6). omega arith) (λ (l : 7 < axis). omega arith) out),
+      ne-eqb axis 7 (λ e. ⊎-elim (λ (l : axis < 6). omega arith) (λ (l : 7 < axis). omega arith) out),
+    )
+
+-- ── what it says where it passes ──
+module _ (many axis : ℕ) (want : Want) (e : lonePath many axis want ≡ true) where
   -- any row is wanted
   abbrev any : Bool
-  any = eqb wk 5 && eqb wn 0
+  any = eqb (want .kind) 5 && eqb (want .name) 0
 
   -- one context, and one of the axes
   tests : (eqb many 1 ≡ true) × ((eqb axis 5 || ((eqb axis 6 || eqb axis 7) && any)) ≡ true)
@@ -53,11 +85,11 @@ module _ (axis many wk wn : ℕ) (e : lonePath axis many wk wn ≡ true) where
   cases : (axis ≡ 5) ⊎ ((eqb axis 6 || eqb axis 7) && any ≡ true)
   cases = ⊎-elim (λ z. inl (eqb-true axis 5 z)) (λ z. inr z) (either (eqb axis 5) _ (tests .1))
 
-  any-row : (axis ≡ 5 → ⊥) → (wk ≡ 5) × (wn ≡ 0)
+  any-row : (axis ≡ 5 → ⊥) → (want .kind ≡ 5) × (want .name ≡ 0)
   any-row n = ⊎-elim
       (λ z. absurd (n z))
-      (λ z. let g = both (eqb wk 5) (eqb wn 0) (both (eqb axis 6 || eqb axis 7) any z .1) in
-      (eqb-true wk 5 (g .0), eqb-true wn 0 (g .1)))
+      (λ z. let g = both (eqb (want .kind) 5) (eqb (want .name) 0) (both (eqb axis 6 || eqb axis 7) any z .1) in
+      (eqb-true (want .kind) 5 (g .0), eqb-true (want .name) 0 (g .1)))
       cases
 
   parent-left : (axis ≡ 7 → ⊥) → (axis ≡ 6 → ⊥) → axis ≡ 5
@@ -75,9 +107,9 @@ module _ (axis many wk wn : ℕ) (e : lonePath axis many wk wn ≡ true) where
       cases
 
 -- ── the rows ──
-module _ {axis : ℕ} {size level kind name up : List ℕ} {n wk wn : ℕ} {cs out : List ℕ}
-    (h : LoneIn axis size level kind name up n wk wn cs out) where
-  -- the context, and the place of its parent
+module _ {axis : ℕ} {size level kind name up : List ℕ} {n : ℕ} {want : Want} {cs out : List ℕ}
+    (h : LoneIn axis size level kind name n up cs want out) where
+  -- the context, and the link of its parent
   abbrev C : ℕ
   C = at cs 0
 
@@ -85,10 +117,10 @@ module _ {axis : ℕ} {size level kind name up : List ℕ} {n wk wn : ℕ} {cs o
   P = at up C
 
   abbrev test : ℕ → Bool
-  test = fits wk wn kind name
+  test = fits want kind name
 
   pub lone-one : length cs ≡ 1
-  lone-one = one-context axis (length cs) wk wn (h .lone)
+  lone-one = one-context (length cs) axis want (h .lone)
 
   pub lone-row : C < n
   lone-row = h .asks .contexts .inside 0 (omega (arith, lone-one))
@@ -100,19 +132,19 @@ module _ {axis : ℕ} {size level kind name up : List ℕ} {n wk wn : ℕ} {cs o
   P-low = omega (arith, P-is, parent-low level C)
 
   -- where the rows on the axis are those on a path, and each is wanted
-  path-rows : (axis ≡ 5 → ⊥) → (place : ℕ) → ((w : ℕ) → onAxis axis level C w ≡ onPath level place w)
-      → oneRole axis level n test cs ≡ pathRows level n place
+  path-rows : (axis ≡ 5 → ⊥) → (link : ℕ) → ((w : ℕ) → onAxis axis level C w ≡ onPath level link w)
+      → oneRole axis level n test cs ≡ pathRows level n link
   unfolding oneRole pathRows
-  path-rows ne place g =
-      let a = any-row axis (length cs) wk wn (h .lone) ne in
-      gather-ext (λ w. anyOn axis level cs w && test w) (onPath level place) n (λ w l.
+  path-rows ne link g =
+      let a = any-row (length cs) axis want (h .lone) ne in
+      gather-ext (λ w. anyOn axis level cs w && test w) (onPath level link) n (λ w l.
       ap₂ (λ (x y : Bool). x && y) (any-one axis level cs w lone-one ∙ g w)
-      (sym (fits-any wk wn kind name w (a .0) (a .1)))
-      ∙ and-true (onPath level place w))
+      (sym (fits-any want kind name w (a .0) (a .1)))
+      ∙ and-true (onPath level link w))
 
-  path-asks : (place k : ℕ) → place ≤ n → length (pathRows level n place) ≡ k
-      → oneRole axis level n test cs ≡ pathRows level n place → PathIn size level n up place k out
-  path-asks place k l m e = record {
+  path-asks : (link k : ℕ) → link ≤ n → length (pathRows level n link) ≡ k
+      → oneRole axis level n test cs ≡ pathRows level n link → PathIn size level n up link k out
+  path-asks link k l m e = record {
     shape = h .asks .shape;
     parents = h .parents;
     low = l;
@@ -150,7 +182,7 @@ module _ {axis : ℕ} {size level kind name up : List ℕ} {n wk wn : ℕ} {cs o
     reached : (w : ℕ) → anyOn axis level cs w ≡ eqb P (suc w)
     reached w =
         any-one axis level cs w lone-one
-        ∙ ap (λ (x : ℕ). onAxis x level C w) (parent-left axis (length cs) wk wn (h .lone) ne7 ne6)
+        ∙ ap (λ (x : ℕ). onAxis x level C w) (parent-left (length cs) axis want (h .lone) ne7 ne6)
         ∙ axis-parent level C w
         ∙ ap (λ (k : ℕ). eqb k (suc w)) (sym P-is)
 
@@ -169,7 +201,7 @@ module _ {axis : ℕ} {size level kind name up : List ℕ} {n wk wn : ℕ} {cs o
       here : (w : ℕ) → p ≤ w → w < P → anyOn axis level cs w ≡ true
       here w l m = reached w ∙ eq-eqb P (suc w) (omega arith)
 
-      pub lone-parent-asks : RangeIn kind name p P wk wn out 0
+      pub lone-parent-asks : RangeIn kind name p P want out 0
       lone-parent-asks = cover-asks (h .asks) before P (omega arith) (omega (arith, P-low, lone-row)) here
 
       pub lone-parent-done : {r : ℕ} {new : List ℕ} → Appended (rowsIn test p P) out 0 r new

@@ -1,6 +1,6 @@
--- The rows on the path of a place, ascending: none (`path-none`), those of a row are those of its parent and the row
+-- The rows on the path of a link, ascending: none (`path-none`), those of a row are those of its parent and the row
 -- itself (`path-snoc`), and how many they are (`path-above-count`, `path-own-count`). The loop that writes them from
--- the last place down: `down-start`, `down-next`, `down-done`, and what a turn asks for: `down-some`, `down-length`.
+-- the last one down: `down-start`, `down-next`, `down-done`, and what a turn asks for: `down-some`, `down-length`.
 -- Assumes nothing.
 use Prim.Native.Nat.{ℕ, zero, suc, _+_, _<_, _≤_}
 use mathlib.Core.Path.{_≡_, refl, sym, ap, _∙_}
@@ -17,17 +17,17 @@ use Rattle.tree.specs.Outcome.{overwritten}
 use Rattle.tree.proofs.SearchLaws.{gather-zero, gather-yes, gather-skip, gather-ext}
 use Rattle.tree.proofs.AxisLaws.{same-test}
 use Rattle.tree.proofs.LevelLaws.{ancestors-count}
-use Rattle.span.specs.Reach.{Wrote}
+use Rattle.span.specs.OneRole.{Wrote}
 use Rattle.direct.specs.Path.{onPath, pathRows, PathIn}
 use Rattle.direct.proofs.ClimbLaws.{parent-low, ancestor-path, path-before, path-own, path-above}
 
 -- ── the rows ──
 module _ {size level : List ℕ} {n : ℕ} (s : Shape size level n) where
-  -- no row from the place on
-  path-cut : (place b : ℕ) → place ≤ n → place ≤ b
-      → gather (onPath level place) b ≡ gather (onPath level place) place
-  path-cut place b l m = gather-skip (onPath level place) place b m (λ w x y. same-test (onPath level place w) false
-      (λ t. absurd (omega (arith, path-before s place w l t)))
+  -- no row from the link on
+  path-cut : (link b : ℕ) → link ≤ n → link ≤ b
+      → gather (onPath level link) b ≡ gather (onPath level link) link
+  path-cut link b l m = gather-skip (onPath level link) link b m (λ w x y. same-test (onPath level link w) false
+      (λ t. absurd (omega (arith, path-before s link w l t)))
       (λ t. absurd (false≢true t)))
 
   pub path-none : pathRows level n 0 ≡ []
@@ -65,32 +65,32 @@ module _ {size level : List ℕ} {n : ℕ} (s : Shape size level n) where
 
 -- ── the loop ──
 -- the k rows of the path from a are to go to the first k places, and the rows below them are written
-pub record Down (level : List ℕ) (n place : ℕ) (old out : List ℕ) (a k : ℕ) : Type 0 where
+pub record Down (level : List ℕ) (n link : ℕ) (old out : List ℕ) (a k : ℕ) : Type 0 where
   pub below : List ℕ
   pub low : a ≤ n
   pub many : length (pathRows level n a) ≡ k
-  pub split : pathRows level n place ≡ pathRows level n a ++ below
-  pub holds : out ≡ take k old ++ (below ++ drop (length (pathRows level n place)) old)
+  pub split : pathRows level n link ≡ pathRows level n a ++ below
+  pub holds : out ≡ take k old ++ (below ++ drop (length (pathRows level n link)) old)
 
 -- a list of no elements
 empty : (xs : List ℕ) → length xs ≡ 0 → xs ≡ []
 empty [] e = refl
 empty (x ∷ xs) e = absurd (omega arith)
 
-module _ {size level : List ℕ} {n : ℕ} {up : List ℕ} {place m : ℕ} {old : List ℕ}
-    (h : PathIn size level n up place m old) where
-  pub down-start : Down level n place old old place m
+module _ {size level : List ℕ} {n : ℕ} {up : List ℕ} {link m : ℕ} {old : List ℕ}
+    (h : PathIn size level n up link m old) where
+  pub down-start : Down level n link old old link m
   down-start = record {
     below = [];
     low = h .low;
     many = h .many;
-    split = sym (append-nil (pathRows level n place));
+    split = sym (append-nil (pathRows level n link));
     holds = sym (take-append-drop m old) ∙ ap (λ (j : ℕ). take m old ++ drop j old) (sym (h .many));
   }
 
-  module _ {out : List ℕ} {a k : ℕ} (s : Down level n place old out a k) where
+  module _ {out : List ℕ} {a k : ℕ} (s : Down level n link old out a k) where
     -- how many rows are left and written
-    parts : length (pathRows level n place) ≡ k + length (s .below)
+    parts : length (pathRows level n link) ≡ k + length (s .below)
     parts =
         ap length (s .split)
         ∙ length-append (pathRows level n a) (s .below)
@@ -106,7 +106,7 @@ module _ {size level : List ℕ} {n : ℕ} {up : List ℕ} {place m : ℕ} {old 
         let r = h .room in
         ap length (s .holds) ∙ simp (length-append, length-take, length-drop) (omega arith)
 
-    -- where a row is left, the place names one
+    -- where a row is left, the link names one
     pub down-some : 0 < k → 0 < a
     down-some l = go a refl
       where
@@ -134,9 +134,9 @@ module _ {size level : List ℕ} {n : ℕ} {up : List ℕ} {place m : ℕ} {old 
       fewer : length (pathRows level n a) ≡ length (pathRows level n (at up v)) + 1
       fewer = ap length last ∙ length-append (pathRows level n (at up v)) (v ∷ [])
 
-      pub down-next : Down level n place old (set out j v) (at up v) j
+      pub down-next : Down level n link old (set out j v) (at up v) j
       down-next =
-          let rest : List ℕ = s .below ++ drop (length (pathRows level n place)) old in
+          let rest : List ℕ = s .below ++ drop (length (pathRows level n link)) old in
           let l : j < length old = omega (arith, down-few) in
           record {
             below = v ∷ s .below;
@@ -154,13 +154,13 @@ module _ {size level : List ℕ} {n : ℕ} {up : List ℕ} {place m : ℕ} {old 
                 ∙ set-at (take j old) (getD old j 0) rest v j (length-take-le j old (omega arith));
           }
 
-    pub down-done : k ≤ 0 → Wrote (pathRows level n place) old m out
+    pub down-done : k ≤ 0 → Wrote (pathRows level n link) old m out
     unfolding overwritten
     down-done l =
         let z : k ≡ 0 = omega arith in
-        let b : pathRows level n place ≡ s .below =
+        let b : pathRows level n link ≡ s .below =
         s .split ∙ ap (λ (xs : List ℕ). xs ++ s .below) (empty (pathRows level n a) (s .many ∙ z)) in
-        let rest : List ℕ = drop (length (pathRows level n place)) old in
+        let rest : List ℕ = drop (length (pathRows level n link)) old in
         record {
           many = sym (h .many);
           holds =

@@ -11,6 +11,7 @@ use Rattle.tree.specs.Tree.{parent}
 use Rattle.tree.specs.Rules.{Shape}
 use Rattle.span.specs.Want.{fits}
 use Rattle.span.specs.Range.{rowsIn}
+use Rattle.span.specs.declared.want.Want.{Want}
 
 -- row w is a child of p and passes
 unfoldable pub childThat : (ℕ → Bool) → List ℕ → ℕ → ℕ → Bool
@@ -22,8 +23,8 @@ pub record ChildOrEnd (size level : List ℕ) (p v : ℕ) : Type 0 where
   pub last : v ≤ p + at size p + 1
   pub child : v ≤ p + at size p → parent level v ≡ suc p
 
--- the children of p from row v on, and before row e, that fit are to be written, and have room from a place on
-pub record ChildrenIn (size level kind name : List ℕ) (n p v e wantKind wantName : ℕ) (out : List ℕ) (place : ℕ)
+-- the children of p from row v on, and before row e, that fit are to be written, and have room behind those written
+pub record ChildrenIn (size level kind name : List ℕ) (n p v e : ℕ) (want : Want) (out : List ℕ) (written : ℕ)
     : Type 0 where
   pub shape : Shape size level n
   pub row : p < n
@@ -32,4 +33,4 @@ pub record ChildrenIn (size level kind name : List ℕ) (n p v e wantKind wantNa
   pub order : v ≤ e
   pub in-kind : n ≤ length kind
   pub in-name : n ≤ length name
-  pub room : place + length (rowsIn (childThat (fits wantKind wantName kind name) level p) v e) ≤ length out
+  pub room : written + length (rowsIn (childThat (fits want kind name) level p) v e) ≤ length out

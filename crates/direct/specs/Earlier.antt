@@ -11,15 +11,17 @@ use Rattle.tree.specs.Axis.{onAxis}
 use Rattle.tree.specs.Rules.{Shape}
 use Rattle.span.specs.Want.{fits}
 use Rattle.span.specs.Range.{rowsIn}
-use Rattle.span.specs.Reach.{Parents}
+use Rattle.span.specs.OneRole.{Parents}
+use Rattle.span.specs.declared.want.Want.{Want}
 
 -- the earlier siblings of c from row v on that pass, ascending
 unfoldable pub earlierFrom : List ℕ → ℕ → ℕ → (ℕ → Bool) → List ℕ
 earlierFrom level v c test = rowsIn (λ w. onAxis 11 level c w && test w) v c
 
--- those that fit are to be written, and have room from a place on; row v is not after the parent of c, or has the same
-pub record EarlierIn (size level kind name up : List ℕ) (n v c wantKind wantName : ℕ) (out : List ℕ) (place : ℕ)
-    : Type 0 where
+-- those that fit are to be written, and have room behind those written; row v is not after the parent of c, or has
+-- the same
+pub record EarlierIn (size level kind name : List ℕ) (n : ℕ) (up : List ℕ) (v c : ℕ) (want : Want)
+    (out : List ℕ) (written : ℕ) : Type 0 where
   pub shape : Shape size level n
   pub parents : Parents level n up
   pub row : c < n
@@ -27,7 +29,7 @@ pub record EarlierIn (size level kind name up : List ℕ) (n v c wantKind wantNa
   pub from : (p : ℕ) → parent level c ≡ suc p → p < v → parent level v ≡ suc p
   pub in-kind : n ≤ length kind
   pub in-name : n ≤ length name
-  pub room : place + length (earlierFrom level v c (fits wantKind wantName kind name)) ≤ length out
+  pub room : written + length (earlierFrom level v c (fits want kind name)) ≤ length out
 
 -- from context to context the parents do not fall: as the column of parents has them, 0 for none
 pub record ParentsRise (up cs : List ℕ) : Type 0 where

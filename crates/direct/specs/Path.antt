@@ -9,33 +9,34 @@ use lib.ListN.{length}
 use Rattle.tree.specs.Search.{gather}
 use Rattle.tree.specs.Tree.{ancestor}
 use Rattle.tree.specs.Rules.{Shape}
-use Rattle.span.specs.Reach.{RoleIn, Parents}
+use Rattle.span.specs.OneRole.{RoleIn, Parents}
+use Rattle.span.specs.declared.want.Want.{Want}
 
--- row w is the row that a place names, or one of its ancestors; a place is one more than a row, or 0 for none
+-- row w is the row that a link names, or one of its ancestors; a link is one more than a row, or 0 for none
 unfoldable pub onPath : List ℕ → ℕ → ℕ → Bool
 onPath level zero w = false
 onPath level (suc v) w = eqb w v || ancestor level w v
 
--- the rows below n that a place names or that are its ancestors, ascending
+-- the rows below n that a link names or that are its ancestors, ascending
 unfoldable pub pathRows : List ℕ → ℕ → ℕ → List ℕ
-pathRows level n place = gather (onPath level place) n
+pathRows level n link = gather (onPath level link) n
 
 -- of so many contexts there is one, and its parent is asked for, or all its ancestors, with itself or without
-unfoldable pub lonePath : ℕ → ℕ → ℕ → ℕ → Bool
-lonePath axis many wantKind wantName =
-    eqb many 1 && (eqb axis 5 || ((eqb axis 6 || eqb axis 7) && (eqb wantKind 5 && eqb wantName 0)))
+unfoldable pub lonePath : ℕ → ℕ → Want → Bool
+lonePath many axis want =
+    eqb many 1 && (eqb axis 5 || ((eqb axis 6 || eqb axis 7) && (eqb (want .kind) 5 && eqb (want .name) 0)))
 
--- the path of a place has k rows, and there is room for them
-pub record PathIn (size level : List ℕ) (n : ℕ) (up : List ℕ) (place k : ℕ) (out : List ℕ) : Type 0 where
+-- the path of a link has k rows, and there is room for them
+pub record PathIn (size level : List ℕ) (n : ℕ) (up : List ℕ) (link k : ℕ) (out : List ℕ) : Type 0 where
   pub shape : Shape size level n
   pub parents : Parents level n up
-  pub low : place ≤ n
-  pub many : length (pathRows level n place) ≡ k
+  pub low : link ≤ n
+  pub many : length (pathRows level n link) ≡ k
   pub room : k ≤ length out
 
 -- one context whose rows are on its way up, the parents, and room for the rows
-pub record LoneIn (axis : ℕ) (size level kind name up : List ℕ) (n wantKind wantName : ℕ) (cs out : List ℕ)
+pub record LoneIn (axis : ℕ) (size level kind name : List ℕ) (n : ℕ) (up cs : List ℕ) (want : Want) (out : List ℕ)
     : Type 0 where
-  pub lone : lonePath axis (length cs) wantKind wantName ≡ true
-  pub asks : RoleIn axis size level kind name n wantKind wantName cs out
+  pub lone : lonePath (length cs) axis want ≡ true
+  pub asks : RoleIn axis size level kind name n cs want out
   pub parents : Parents level n up

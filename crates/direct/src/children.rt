@@ -3,12 +3,13 @@ ghost use Prim.Native.Nat.{_<_, _≤_};
 ghost use Rattle.span.specs.Want.{fits};
 ghost use Rattle.span.specs.Range.{rowsIn, Appended};
 ghost use Rattle.direct.specs.Children.{childThat, ChildOrEnd, ChildrenIn};
+use span::want::Want;
 use span::want::fits_row;
 
-// Where a walk from child to child is: the next row, and the place after the rows written.
+// Where a walk from child to child is: the next row, and how many rows are written.
 struct Stand {
     row: usize,
-    place: usize,
+    written: usize,
 }
 
 // Appends children of row p that fit, from child `row` on and before row `end`: the leaves that follow one another, and
@@ -22,24 +23,23 @@ fn append_leaves(
     p: usize,
     row: usize,
     end: usize,
-    want_kind: usize,
-    want_name: usize,
+    want: Want,
     out: &mut [usize],
-    place: usize,
+    written: usize,
 ) -> Stand
     requires { ⌜ (row < end) × ChildrenIn (now size) (now level) (now kind) (now name) count p row end
-        «want_kind» «want_name» (now out) place ⌝ }
+        want (now out) written ⌝ }
     ensures { λ r. ⌜ (row < r .row) × (r .row ≤ end)
         × ChildOrEnd (now (size .entry)) (now (level .entry)) p (r .row)
         × Appended
-        (rowsIn (childThat (fits «want_kind» «want_name» (now (kind .entry)) (now (name .entry)))
+        (rowsIn (childThat (fits want (now (kind .entry)) (now (name .entry)))
         (now (level .entry)) p) row (r .row))
-        (now (out .entry)) place (r .place) (now (out .exit)) ⌝ }
+        (now (out .entry)) written (r .written) (now (out .exit)) ⌝ }
 {
     let mut w = row;
-    let mut next = place;
+    let mut next = written;
     while w < end {
-        if fits_row(kind, name, want_kind, want_name, w) {
+        if fits_row(kind, name, w, want) {
             out[next] = w;
             next = next + 1;
         }
@@ -48,17 +48,17 @@ fn append_leaves(
         if below != 0 {
             return Stand {
                 row: w + below,
-                place: next,
+                written: next,
             };
         }
     }
     Stand {
         row: w,
-        place: next,
+        written: next,
     }
 }
 
-// Appends the children of row p from row `from` on and before row `end` that fit; answers the place after them. Both
+// Appends the children of row p from row `from` on and before row `end` that fit; answers how many are written then. Both
 // rows are children of p, or the end of its descendants.
 pub fn append_children(
     size: &[usize],
@@ -69,37 +69,23 @@ pub fn append_children(
     p: usize,
     from: usize,
     end: usize,
-    want_kind: usize,
-    want_name: usize,
+    want: Want,
     out: &mut [usize],
-    place: usize,
+    written: usize,
 ) -> usize
     requires { ⌜ ChildrenIn (now size) (now level) (now kind) (now name) count p from end
-        «want_kind» «want_name» (now out) place ⌝ }
+        want (now out) written ⌝ }
     ensures { λ r. ⌜ Appended
-        (rowsIn (childThat (fits «want_kind» «want_name» (now (kind .entry)) (now (name .entry)))
+        (rowsIn (childThat (fits want (now (kind .entry)) (now (name .entry)))
         (now (level .entry)) p) from end)
-        (now (out .entry)) place r (now (out .exit)) ⌝ }
+        (now (out .entry)) written r (now (out .exit)) ⌝ }
 {
     let mut w = from;
-    let mut next = place;
+    let mut next = written;
     while w < end {
-        let s = append_leaves(
-            size,
-            level,
-            kind,
-            name,
-            count,
-            p,
-            w,
-            end,
-            want_kind,
-            want_name,
-            out,
-            next,
-        );
+        let s = append_leaves(size, level, kind, name, count, p, w, end, want, out, next);
         w = s.row;
-        next = s.place;
+        next = s.written;
     }
     next
 }

@@ -2,18 +2,19 @@
 // after what is written, since it is the siblings before it that are not before the context ahead of it. They are
 // written as they are met, without a set.
 use super::children::append_children;
+use span::want::Want;
 use tree::logic::greater;
 ghost use mathlib.Core.Path.{_≡_};
 ghost use mathlib.Core.Bool.{true, false};
 ghost use Prim.Native.Nat.{_≤_};
 ghost use Rattle.span.specs.Want.{fits};
 ghost use Rattle.span.specs.Range.{Appended};
-ghost use Rattle.span.specs.Reach.{oneRole, Contexts, RoleIn, Parents, Wrote};
+ghost use Rattle.span.specs.OneRole.{oneRole, Contexts, RoleIn, Parents, Wrote};
 ghost use Rattle.direct.specs.Earlier.{earlierFrom, EarlierIn, ParentsRise};
 
 // Whether earlier siblings are asked for, and no context has a parent before that of the context ahead of it. No parent
 // counts as the first.
-pub fn is_rising(axis: usize, up: &[usize; 4096], count: usize, rows: &[usize]) -> bool
+pub fn is_rising(count: usize, up: &[usize; 4096], rows: &[usize], axis: usize) -> bool
     requires { ⌜ (count ≤ 4096) × Contexts (now rows) count ⌝ }
     ensures { λ r. ⌜ (r ≡ true → (axis ≡ 11) × ParentsRise (now (up .entry)) (now (rows .entry)))
         × (r ≡ false → axis ≡ 11 → ParentsRise (now (up .entry)) (now (rows .entry)) → ⊥) ⌝ }
@@ -35,31 +36,30 @@ pub fn is_rising(axis: usize, up: &[usize; 4096], count: usize, rows: &[usize]) 
     true
 }
 
-// Appends the earlier siblings of row c from row `floor` on that fit; answers the place after them.
+// Appends the earlier siblings of row c from row `floor` on that fit; answers how many are written then.
 fn append_earlier(
     size: &[usize],
     level: &[usize],
     kind: &[usize],
     name: &[usize],
-    up: &[usize; 4096],
     count: usize,
+    up: &[usize; 4096],
     floor: usize,
     c: usize,
-    want_kind: usize,
-    want_name: usize,
+    want: Want,
     out: &mut [usize],
-    place: usize,
+    written: usize,
 ) -> usize
-    requires { ⌜ EarlierIn (now size) (now level) (now kind) (now name) (now up) count floor c
-        «want_kind» «want_name» (now out) place ⌝ }
+    requires { ⌜ EarlierIn (now size) (now level) (now kind) (now name) count (now up) floor c
+        want (now out) written ⌝ }
     ensures { λ r. ⌜ Appended
         (earlierFrom (now (level .entry)) floor c
-        (fits «want_kind» «want_name» (now (kind .entry)) (now (name .entry))))
-        (now (out .entry)) place r (now (out .exit)) ⌝ }
+        (fits want (now (kind .entry)) (now (name .entry))))
+        (now (out .entry)) written r (now (out .exit)) ⌝ }
 {
     let q = up[c];
     if q == 0 {
-        return place;
+        return written;
     }
     append_children(
         size,
@@ -70,10 +70,9 @@ fn append_earlier(
         q - 1,
         greater(q, floor),
         c,
-        want_kind,
-        want_name,
+        want,
         out,
-        place,
+        written,
     )
 }
 
@@ -84,19 +83,18 @@ pub fn rising_rows(
     level: &[usize],
     kind: &[usize],
     name: &[usize],
-    up: &[usize; 4096],
     count: usize,
+    up: &[usize; 4096],
     rows: &[usize],
-    want_kind: usize,
-    want_name: usize,
+    want: Want,
     out: &mut [usize],
 ) -> usize
     requires { ⌜ RoleIn 11 (now size) (now level) (now kind) (now name) count
-        «want_kind» «want_name» (now rows) (now out) ⌝ }
+        (now rows) want (now out) ⌝ }
     requires { ⌜ Parents (now level) count (now up) × ParentsRise (now up) (now rows) ⌝ }
     ensures { λ r. ⌜ Wrote
         (oneRole 11 (now (level .entry)) count
-        (fits «want_kind» «want_name» (now (kind .entry)) (now (name .entry))) (now (rows .entry)))
+        (fits want (now (kind .entry)) (now (name .entry))) (now (rows .entry)))
         (now (out .entry)) r (now (out .exit)) ⌝ }
 {
     let mut next = 0;
@@ -109,12 +107,11 @@ pub fn rising_rows(
             level,
             kind,
             name,
-            up,
             count,
+            up,
             floor,
             c,
-            want_kind,
-            want_name,
+            want,
             out,
             next,
         );

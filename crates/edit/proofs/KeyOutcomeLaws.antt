@@ -18,7 +18,7 @@ use Rattle.tree.specs.declared.Checked.the-variants.{Passed, Refused}
 use Rattle.tree.specs.declared.Found.the-variants.{At, Refused as NotFound}
 use Rattle.tree.specs.declared.Done.{Done}
 use Rattle.tree.proofs.SoundLaws.{table-passes}
-use Rattle.edit_at.specs.AtRow.{Known, insertAt, deleteAt, renameAt}
+use Rattle.edit_at.specs.AtRow.{RowFound, insertAt, deleteAt, renameAt}
 use Rattle.edit_at.proofs.OutcomeLaws.{refused, own-refused}
 
 -- a table that passed has a key in each row in use
@@ -74,7 +74,7 @@ module _ (t : Table) (k r : ℕ) (found : located (t .key) (t .count) k ≡ At r
       go false p h = let z : _≡_ {A = ℕ} 0 1 = cc in absurd (omega arith)
 
   -- what the edit at the row may count on
-  pub known : checkOutcome t ≡ Passed → Known t r
+  pub known : checkOutcome t ≡ Passed → RowFound t r
   unfolding checkOutcome
   known passed = record {
     sound = table-passes t .0 passed;

@@ -2,7 +2,7 @@
 // the row of its key and hands over to the edit at that row; a refusal leaves all columns as they were.
 ghost use Rattle.tree.specs.Table.{tableOf};
 ghost use Rattle.tree.specs.Outcome.{insertOutcome, deleteOutcome, renameOutcome};
-ghost use Rattle.edit_at.specs.Leaves.{Leaves};
+ghost use Rattle.edit_at.specs.EditLeaves.{EditLeaves};
 use edit_at::deletion;
 use edit_at::insertion;
 use edit_at::renaming;
@@ -26,7 +26,7 @@ pub fn insert(
     p_name: &[usize],
     p_count: usize,
 ) -> Edited
-    ensures { λ r. ⌜ Leaves (insertOutcome
+    ensures { λ r. ⌜ EditLeaves (insertOutcome
         (tableOf (now (key .entry)) (now (size .entry)) (now (level .entry)) (now (kind .entry))
         (now (name .entry)) count) parent
         (tableOf (now («p_key» .entry)) (now («p_size» .entry)) (now («p_level» .entry)) (now («p_kind» .entry))
@@ -67,7 +67,7 @@ pub fn delete(
     count: usize,
     wanted: usize,
 ) -> Edited
-    ensures { λ r. ⌜ Leaves (deleteOutcome
+    ensures { λ r. ⌜ EditLeaves (deleteOutcome
         (tableOf (now (key .entry)) (now (size .entry)) (now (level .entry)) (now (kind .entry))
         (now (name .entry)) count) wanted) r
         (now (key .exit)) (now (size .exit)) (now (level .exit)) (now (kind .exit)) (now (name .exit)) ⌝ }
@@ -93,7 +93,7 @@ pub fn rename(
     wanted: usize,
     new_name: usize,
 ) -> Edited
-    ensures { λ r. ⌜ Leaves (renameOutcome
+    ensures { λ r. ⌜ EditLeaves (renameOutcome
         (tableOf (now (key .entry)) (now (size .entry)) (now (level .entry)) (now (kind .entry))
         (now (name .entry)) count) wanted «new_name») r
         (now (key .exit)) (now (size .exit)) (now (level .exit)) (now (kind .exit)) (now (name .exit)) ⌝ }

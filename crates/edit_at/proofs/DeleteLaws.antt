@@ -18,20 +18,20 @@ use Rattle.tree.proofs.SoundLaws.{sound-shape, given-not}
 use Rattle.tree.proofs.LastRootLaws.{only-root-is}
 use Rattle.tree.proofs.EditLaws.{gap-fits}
 use Rattle.tree.proofs.ColumnLaws.{length-changed}
-use Rattle.edit_at.specs.Leaves.{Leaves}
-use Rattle.edit_at.specs.AtRow.{Known, deleteAt}
-use Rattle.shift.specs.Moved.{answered}
+use Rattle.edit_at.specs.EditLeaves.{EditLeaves}
+use Rattle.edit_at.specs.AtRow.{RowFound, deleteAt}
+use Rattle.shift.specs.Done.{answered}
 use Rattle.shift.specs.Part.{pulled, cleared}
 use Rattle.shift.specs.Enclosing.{lowered, Lowerable}
-use Rattle.shift.proofs.MoveLaws.{pulled-cleared}
+use Rattle.shift.proofs.MoverLaws.{pulled-cleared}
 use Rattle.edit_at.proofs.OutcomeLaws.{leaves, own-refused, own-passed, given-is}
 use Rattle.shift.proofs.SizePassLaws.{lowered-is, lowerable}
 
 module _ (t : Table) (r : ℕ) where
-  module _ (k : Known t r) where
+  module _ (k : RowFound t r) where
     -- the only root stays
     pub delete-refused : at (t .size) r + 1 ≡ t .count
-        → Leaves (deleteAt t r) (NotMade 15 0) (t .key) (t .size) (t .level) (t .kind) (t .name)
+        → EditLeaves (deleteAt t r) (NotMade 15 0) (t .key) (t .size) (t .level) (t .kind) (t .name)
     unfolding deleteCheck
     delete-refused e =
         leaves t (own-refused _ _ t (given-is 15 0 (only-root-is t (k .sound) r (k .in-use) ∙ eq-eqb _ _ e)))
@@ -70,7 +70,7 @@ module _ (t : Table) (r : ℕ) where
         → d₂ ≡ cleared (t .count - (at (t .size) r + 1)) (t .count) d₁
         → m₂ ≡ cleared (t .count - (at (t .size) r + 1)) (t .count) m₁
         → d ≡ answered (t .count - (at (t .size) r + 1)) (r + (at (t .size) r + 1)) (minus (at (t .size) r + 1))
-        → Leaves (deleteAt t r) (Made d) k₂ s₂ l₂ d₂ m₂
+        → EditLeaves (deleteAt t r) (Made d) k₂ s₂ l₂ d₂ m₂
     unfolding deleted deleteDone gapOf
     delete-made ne {low = low} fall k₁ s₁ l₁ d₁ m₁ k₂ s₂ l₂ d₂ m₂ done =
         let by : ℕ = at (t .size) r + 1 in

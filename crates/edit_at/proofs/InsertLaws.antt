@@ -15,9 +15,9 @@ use Rattle.tree.specs.declared.Edited.the-variants.{Made}
 use Rattle.tree.proofs.SoundLaws.{sound-shape}
 use Rattle.tree.proofs.AcceptLaws.{insert-passes}
 use Rattle.tree.proofs.EditLaws.{gap-fits}
-use Rattle.edit_at.specs.Leaves.{Leaves}
-use Rattle.edit_at.specs.AtRow.{Fitting, insertAt}
-use Rattle.shift.specs.Moved.{answered}
+use Rattle.edit_at.specs.EditLeaves.{EditLeaves}
+use Rattle.edit_at.specs.AtRow.{PieceChecked, insertAt}
+use Rattle.shift.specs.Done.{answered}
 use Rattle.shift.specs.Enclosing.{raised, Raisable}
 use Rattle.edit_at.proofs.OutcomeLaws.{leaves, own-passed}
 use Rattle.shift.proofs.SizePassLaws.{raised-is, raisable}
@@ -40,7 +40,7 @@ pub record Room (t : Table) (r : ℕ) (p : Table) : Type 0 where
   pub of-kind : p .count ≤ length (p .kind)
   pub of-name : p .count ≤ length (p .name)
 
-module _ (t : Table) (r : ℕ) (p : Table) (k : Fitting t r p) where
+module _ (t : Table) (r : ℕ) (p : Table) (k : PieceChecked t r p) where
   pub room : Room t r p
   unfolding gapOf shortest
   room =
@@ -76,7 +76,7 @@ module _ (t : Table) (r : ℕ) (p : Table) (k : Fitting t r p) where
       → kind ≡ opened (r + 1 + at (t .size) r) (t .count) (p .count) (p .kind) (t .kind)
       → name ≡ opened (r + 1 + at (t .size) r) (t .count) (p .count) (p .name) (t .name)
       → d ≡ answered (t .count + p .count) (r + 1 + at (t .size) r) (pos (p .count))
-      → Leaves (insertAt t r p) (Made d) key size level kind name
+      → EditLeaves (insertAt t r p) (Made d) key size level kind name
   unfolding inserted insertDone gapOf
   insert-made high key size level kind name done =
       let o = leaves (inserted t r p) (own-passed (insertDone t r p) (inserted t r p) t (k .fits)) in

@@ -2,4 +2,4 @@ pub mod OutcomeLaws
 pub mod DeleteLaws
 pub mod PieceLaws
 pub mod InsertLaws
-pub mod LeavesLaws
+pub mod EditLeavesLaws

@@ -11,7 +11,7 @@ use Rattle.tree.specs.declared.Checked.the-variants.{Passed, Refused}
 use Rattle.tree.specs.declared.Done.{Done}
 use Rattle.tree.specs.declared.Edited.{Edited}
 use Rattle.tree.specs.declared.Edited.the-variants.{Made, Refused as NotMade}
-use Rattle.edit_at.specs.Leaves.{Leaves}
+use Rattle.edit_at.specs.EditLeaves.{EditLeaves}
 
 -- refusal m with place p, and the table as it was
 abbrev pub refused : Table → ℕ → ℕ → EditOutcome
@@ -23,7 +23,7 @@ made d t = record { answer = Made d; table = t }
 
 -- what an outcome leaves
 pub leaves : {o : EditOutcome} {a : Edited} (t : Table) → o ≡ record { answer = a; table = t }
-    → Leaves o a (t .key) (t .size) (t .level) (t .kind) (t .name)
+    → EditLeaves o a (t .key) (t .size) (t .level) (t .kind) (t .name)
 leaves t e = record {
   answers = ap (λ (o : EditOutcome). o .answer) (sym e);
   key-is = ap (λ (o : EditOutcome). o .table .key) (sym e);

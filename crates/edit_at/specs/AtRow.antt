@@ -11,13 +11,13 @@ use Rattle.tree.specs.Outcome.{EditOutcome, editIf}
 use Rattle.tree.specs.declared.Checked.the-variants.{Passed}
 
 -- what the check of the table and the search for the key established
-pub record Known (t : Table) (r : ℕ) : Type 0 where
+pub record RowFound (t : Table) (r : ℕ) : Type 0 where
   pub sound : Sound t
   pub in-use : r < t .count
 
 -- and the piece p fits under row r
-pub record Fitting (t : Table) (r : ℕ) (p : Table) : Type 0 where
-  pub known : Known t r
+pub record PieceChecked (t : Table) (r : ℕ) (p : Table) : Type 0 where
+  pub known : RowFound t r
   pub fits : insertCheck t r p ≡ Passed
 
 -- 10 to 14, or the piece p under row r

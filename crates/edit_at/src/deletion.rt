@@ -1,8 +1,8 @@
 // A deletion at a row: document 01, "Finding and editing by key"; refusal 15.
 ghost use Rattle.tree.specs.Table.{tableOf};
-ghost use Rattle.edit_at.specs.Leaves.{Leaves};
-ghost use Rattle.edit_at.specs.AtRow.{Known, deleteAt};
-use shift::moved;
+ghost use Rattle.edit_at.specs.EditLeaves.{EditLeaves};
+ghost use Rattle.edit_at.specs.AtRow.{RowFound, deleteAt};
+use shift::done;
 use shift::mover::clear_column;
 use shift::mover::close_column;
 use shift::sizes;
@@ -19,8 +19,8 @@ pub fn delete_at(
     count: usize,
     row: usize,
 ) -> Edited
-    requires { ⌜ Known (tableOf (now key) (now size) (now level) (now kind) (now name) count) row ⌝ }
-    ensures { λ r. ⌜ Leaves (deleteAt
+    requires { ⌜ RowFound (tableOf (now key) (now size) (now level) (now kind) (now name) count) row ⌝ }
+    ensures { λ r. ⌜ EditLeaves (deleteAt
         (tableOf (now (key .entry)) (now (size .entry)) (now (level .entry)) (now (kind .entry))
         (now (name .entry)) count) row) r
         (now (key .exit)) (now (size .exit)) (now (level .exit)) (now (kind .exit)) (now (name .exit)) ⌝ }
@@ -32,15 +32,15 @@ pub fn delete_at(
     let gap = row + by;
     let left = count - by;
     sizes::lower(size, row, by);
-    close_column(key, row, count, by);
-    close_column(size, row, count, by);
-    close_column(level, row, count, by);
-    close_column(kind, row, count, by);
-    close_column(name, row, count, by);
+    close_column(key, count, row, by);
+    close_column(size, count, row, by);
+    close_column(level, count, row, by);
+    close_column(kind, count, row, by);
+    close_column(name, count, row, by);
     clear_column(key, left, count);
     clear_column(size, left, count);
     clear_column(level, left, count);
     clear_column(kind, left, count);
     clear_column(name, left, count);
-    Edited::Made(moved::up(count, gap, by))
+    Edited::Made(done::after_deletion(count, gap, by))
 }

@@ -7,9 +7,9 @@ ghost use lib.ListN.{length};
 ghost use Rattle.tree.specs.Search.{someBelow};
 ghost use Rattle.tree.specs.Table.{tableOf, at, shortest};
 ghost use Rattle.tree.specs.Refusal.{badPiece, insertCheck};
-ghost use Rattle.edit_at.specs.Leaves.{Leaves};
-ghost use Rattle.edit_at.specs.AtRow.{Known, Fitting, insertAt};
-use shift::moved;
+ghost use Rattle.edit_at.specs.EditLeaves.{EditLeaves};
+ghost use Rattle.edit_at.specs.AtRow.{RowFound, PieceChecked, insertAt};
+use shift::done;
 use shift::mover::open_column;
 use shift::mover::open_column_raised;
 use shift::sizes;
@@ -90,7 +90,7 @@ fn check_piece(
     p_name: &[usize],
     p_count: usize,
 ) -> Checked
-    requires { ⌜ Known (tableOf (now key) (now size) (now level) (now kind) (now name) count) row ⌝ }
+    requires { ⌜ RowFound (tableOf (now key) (now size) (now level) (now kind) (now name) count) row ⌝ }
     ensures { λ r. ⌜ r ≡ insertCheck
         (tableOf (now (key .entry)) (now (size .entry)) (now (level .entry)) (now (kind .entry))
         (now (name .entry)) count) row
@@ -133,9 +133,9 @@ fn open_rows(
     p_name: &[usize],
     p_count: usize,
 ) -> Edited
-    requires { ⌜ Fitting (tableOf (now key) (now size) (now level) (now kind) (now name) count) row
+    requires { ⌜ PieceChecked (tableOf (now key) (now size) (now level) (now kind) (now name) count) row
         (tableOf (now «p_key») (now «p_size») (now «p_level») (now «p_kind») (now «p_name») «p_count») ⌝ }
-    ensures { λ r. ⌜ Leaves (insertAt
+    ensures { λ r. ⌜ EditLeaves (insertAt
         (tableOf (now (key .entry)) (now (size .entry)) (now (level .entry)) (now (kind .entry))
         (now (name .entry)) count) row
         (tableOf (now («p_key» .entry)) (now («p_size» .entry)) (now («p_level» .entry)) (now («p_kind» .entry))
@@ -146,12 +146,12 @@ fn open_rows(
     let gap = after + size[row];
     let add = level[row] + 1;
     sizes::raise(size, row, p_count);
-    open_column(key, gap, count, p_key, p_count);
-    open_column(size, gap, count, p_size, p_count);
-    open_column_raised(level, gap, count, p_level, p_count, add);
-    open_column(kind, gap, count, p_kind, p_count);
-    open_column(name, gap, count, p_name, p_count);
-    Edited::Made(moved::down(count, gap, p_count))
+    open_column(key, count, gap, p_key, p_count);
+    open_column(size, count, gap, p_size, p_count);
+    open_column_raised(level, count, gap, p_level, p_count, add);
+    open_column(kind, count, gap, p_kind, p_count);
+    open_column(name, count, gap, p_name, p_count);
+    Edited::Made(done::after_insertion(count, gap, p_count))
 }
 
 // The piece becomes the row's last child, or refusal 10, 11, 12, 13 or 14.
@@ -170,8 +170,8 @@ pub fn insert_at(
     p_name: &[usize],
     p_count: usize,
 ) -> Edited
-    requires { ⌜ Known (tableOf (now key) (now size) (now level) (now kind) (now name) count) row ⌝ }
-    ensures { λ r. ⌜ Leaves (insertAt
+    requires { ⌜ RowFound (tableOf (now key) (now size) (now level) (now kind) (now name) count) row ⌝ }
+    ensures { λ r. ⌜ EditLeaves (insertAt
         (tableOf (now (key .entry)) (now (size .entry)) (now (level .entry)) (now (kind .entry))
         (now (name .entry)) count) row
         (tableOf (now («p_key» .entry)) (now («p_size» .entry)) (now («p_level» .entry)) (now («p_kind» .entry))

@@ -4,8 +4,8 @@ ghost use mathlib.Core.Bool.{not, _||_};
 ghost use lib.Dec.{eqb};
 ghost use Rattle.tree.specs.Table.{tableOf};
 ghost use Rattle.tree.specs.Sound.{hasName};
-ghost use Rattle.edit_at.specs.Leaves.{Leaves};
-ghost use Rattle.edit_at.specs.AtRow.{Known, renameAt};
+ghost use Rattle.edit_at.specs.EditLeaves.{EditLeaves};
+ghost use Rattle.edit_at.specs.AtRow.{RowFound, renameAt};
 use tree::Done;
 use tree::Edited;
 use tree::logic::either;
@@ -28,8 +28,8 @@ pub fn rename_at(
     row: usize,
     new_name: usize,
 ) -> Edited
-    requires { ⌜ Known (tableOf (now key) (now size) (now level) (now kind) (now name) count) row ⌝ }
-    ensures { λ r. ⌜ Leaves (renameAt
+    requires { ⌜ RowFound (tableOf (now key) (now size) (now level) (now kind) (now name) count) row ⌝ }
+    ensures { λ r. ⌜ EditLeaves (renameAt
         (tableOf (now (key .entry)) (now (size .entry)) (now (level .entry)) (now (kind .entry))
         (now (name .entry)) count) row «new_name») r
         (now (key .exit)) (now (size .exit)) (now (level .exit)) (now (kind .exit)) (now (name .exit)) ⌝ }

@@ -18,7 +18,7 @@ use Rattle.tree.proofs.TreeLaws.{less?}
 use Rattle.tree.proofs.SoundLaws.{both-of}
 use Rattle.tree.proofs.RootLaws.{is-root, same-tree}
 use Rattle.kept.specs.KeptOf.{keptOf, KeptIn}
-use Rattle.span.specs.Reach.{Roots}
+use Rattle.span.specs.OneRole.{Roots}
 use Rattle.axis.specs.Role.{sideAxis}
 use Rattle.axis.proofs.RoleAxisLaws.{side-of}
 use Rattle.span.proofs.RangeLaws.{contexts-rise}

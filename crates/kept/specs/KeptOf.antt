@@ -3,10 +3,10 @@
 use Prim.Native.Nat.{ℕ, _≤_}
 use mathlib.Core.List.{List}
 use lib.ListN.{length}
-use Rattle.tree.specs.Pairs.{withRole}
+use Rattle.tree.specs.Pairs.{mostPairs, withRole}
 use Rattle.tree.specs.Kept.{keptCount}
 use Rattle.tree.specs.Rules.{Shape}
-use Rattle.span.specs.Reach.{Contexts}
+use Rattle.span.specs.OneRole.{Contexts}
 
 -- how many distinct pairs of one role with these rows remain on an axis when redundant ones are dropped
 unfoldable pub keptOf : ℕ → List ℕ → List ℕ → ℕ
@@ -16,4 +16,4 @@ keptOf axis level cs = keptCount axis level (withRole 0 cs)
 pub record KeptIn (size level : List ℕ) (n : ℕ) (cs : List ℕ) : Type 0 where
   pub shape : Shape size level n
   pub contexts : Contexts cs n
-  pub few : length cs ≤ 4096
+  pub few : length cs ≤ mostPairs

@@ -4,7 +4,7 @@ ghost use mathlib.Core.Bool.{cond, true};
 ghost use Prim.Native.Nat.{_<_};
 ghost use lib.Dec.{leb};
 ghost use lib.ListN.{length};
-ghost use Rattle.span.specs.Reach.{Roots};
+ghost use Rattle.span.specs.OneRole.{Roots};
 ghost use Rattle.axis.specs.Role.{sideAxis};
 ghost use Rattle.kept.specs.KeptOf.{keptOf, KeptIn};
 use tree::logic::greater;
@@ -70,7 +70,7 @@ fn kept_distinct(size: &[usize], level: &[usize], count: usize, rows: &[usize]) 
 
 // Axes 8 and 9: in how many trees there are contexts, of one or more: that of the first one, and each whose root is not
 // that of the context before. Most often there is one, so first and last are asked before the others.
-fn kept_trees(size: &[usize], level: &[usize], top: &[usize], count: usize, rows: &[usize]) -> usize
+fn kept_trees(size: &[usize], level: &[usize], count: usize, top: &[usize], rows: &[usize]) -> usize
     requires { ⌜ KeptIn (now size) (now level) count (now rows) × (0 < length (now rows)) ⌝ }
     requires { ⌜ Roots (now level) count (now top) ⌝ }
     ensures { λ r. ⌜ r ≡ keptOf 8 (now (level .entry)) (now (rows .entry)) ⌝ }
@@ -95,12 +95,12 @@ fn kept_trees(size: &[usize], level: &[usize], top: &[usize], count: usize, rows
 
 // How many distinct contexts of one role remain on an axis when redundant ones are dropped. Of fewer than two all do.
 pub fn kept_of(
-    axis: usize,
     size: &[usize],
     level: &[usize],
-    up: &[usize; 4096],
     count: usize,
+    up: &[usize; 4096],
     rows: &[usize],
+    axis: usize,
 ) -> usize
     requires { ⌜ KeptIn (now size) (now level) count (now rows) ⌝ }
     requires { ⌜ (sideAxis axis ≡ true → Roots (now level) count (now up)) ⌝ }
@@ -112,7 +112,7 @@ pub fn kept_of(
     match axis {
         3 | 4 => kept_outermost(size, level, count, rows),
         6 | 7 => kept_innermost(size, level, count, rows),
-        8 | 9 => kept_trees(size, level, up, count, rows),
+        8 | 9 => kept_trees(size, level, count, up, rows),
         _ => kept_distinct(size, level, count, rows),
     }
 }

@@ -18,7 +18,7 @@ use Rattle.tree.specs.Search.{least, nearest}
 use Rattle.tree.specs.Table.{at}
 use Rattle.tree.specs.Sound.{rowOf, keyOk}
 use Rattle.tree.proofs.SearchLaws.{least-none, least-le, least-hit-le, nearest-le, nearest-skip, nearest-in}
-use Rattle.keys.specs.Chain.{bucketOf, lastIn, Room, Chained}
+use Rattle.keys.specs.Chain.{bucketOf, lastIn, ChainRoom, Chained}
 
 module _ (buckets : ℕ) where
   pub bucket-lt : (x : ℕ) → 0 < buckets → bucketOf buckets x < buckets
@@ -87,7 +87,7 @@ module _ (buckets : ℕ) where
 
   -- columns of zeros have room for as many buckets and rows as they are long, and no row is chained in them
   pub cleared : (wide long n : ℕ) (key : List ℕ) → 0 < buckets → buckets ≤ wide → n ≤ long → n ≤ 4096
-      → Room (replicate wide 0) (replicate long 0) buckets n
+      → ChainRoom (replicate wide 0) (replicate long 0) buckets n
       × Chained buckets key (replicate wide 0) (replicate long 0) 0
   unfolding lastIn nearest
   cleared wide long n key p q l s = (

@@ -6,7 +6,7 @@ use Prim.Native.Nat.{ℕ, _%_, _<_, _≤_}
 use lib.Dec.{eqb}
 use lib.ListN.{length}
 use Rattle.tree.specs.Search.{nearest}
-use Rattle.tree.specs.Table.{at}
+use Rattle.tree.specs.Table.{mostRows, at}
 
 -- the bucket of the key x
 unfoldable pub bucketOf : ℕ → ℕ → ℕ
@@ -17,11 +17,11 @@ unfoldable pub lastIn : ℕ → List ℕ → ℕ → ℕ → ℕ
 lastIn buckets key b i = nearest (λ j. eqb (bucketOf buckets (at key j)) b) i
 
 -- heads has an entry for each bucket and next one for each of n rows, and the rows are so few that an entry holds one
-pub record Room (heads next : List ℕ) (buckets n : ℕ) : Type 0 where
+pub record ChainRoom (heads next : List ℕ) (buckets n : ℕ) : Type 0 where
   pub some : 0 < buckets
   pub heads-long : buckets ≤ length heads
   pub next-long : n ≤ length next
-  pub small : n ≤ 4096
+  pub small : n ≤ mostRows
 
 -- the rows below i are chained: heads has the last row of each bucket, next the one before a row
 pub record Chained (buckets : ℕ) (key heads next : List ℕ) (i : ℕ) : Type 0 where

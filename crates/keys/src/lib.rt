@@ -6,8 +6,8 @@ ghost use Prim.Native.Nat.{_<_, _≤_};
 ghost use lib.ListN.{length};
 ghost use lib.Dec.{eqb};
 ghost use Rattle.tree.specs.Sound.{rowOf};
-ghost use Rattle.keys.specs.First.{firstKey, firstClash};
-ghost use Rattle.keys.specs.Chain.{bucketOf, Room, Chained};
+ghost use Rattle.keys.specs.FirstKey.{firstKey, firstClash};
+ghost use Rattle.keys.specs.Chain.{bucketOf, ChainRoom, Chained};
 
 // The least of the first n rows with the key x, or n.
 pub fn row_of(key: &[usize], n: usize, x: usize) -> usize
@@ -33,9 +33,9 @@ fn bucket(x: usize, buckets: usize) -> usize
 }
 
 // Whether no row below i has the key x: a walk along the chain of x's bucket.
-fn fresh(key: &[usize], heads: &[u16], next: &[u16], buckets: usize, i: usize, x: usize) -> bool
+fn fresh(key: &[usize], i: usize, x: usize, heads: &[u16], next: &[u16], buckets: usize) -> bool
     requires { ⌜ i ≤ length (now key) ⌝ }
-    requires { ⌜ Room (now heads) (now next) buckets i ⌝ }
+    requires { ⌜ ChainRoom (now heads) (now next) buckets i ⌝ }
     requires { ⌜ Chained buckets (now key) (now heads) (now next) i ⌝ }
     ensures { λ r. ⌜ r ≡ eqb (rowOf (now (key .entry)) i x) i ⌝ }
 {
@@ -55,7 +55,7 @@ fn fresh(key: &[usize], heads: &[u16], next: &[u16], buckets: usize, i: usize, x
 // before the answer are at the end.
 fn first_in(key: &[usize], n: usize, heads: &mut [u16], next: &mut [u16], buckets: usize) -> usize
     requires { ⌜ n ≤ length (now key) ⌝ }
-    requires { ⌜ Room (now heads) (now next) buckets n ⌝ }
+    requires { ⌜ ChainRoom (now heads) (now next) buckets n ⌝ }
     requires { ⌜ Chained buckets (now key) (now heads) (now next) 0 ⌝ }
     ensures { λ r. ⌜ r ≡ firstKey (now (key .entry)) n ⌝ }
 {
@@ -65,7 +65,7 @@ fn first_in(key: &[usize], n: usize, heads: &mut [u16], next: &mut [u16], bucket
         if x == 0 {
             return i;
         }
-        if !fresh(key, heads, next, buckets, i, x) {
+        if !fresh(key, i, x, heads, next, buckets) {
             return i;
         }
         let b = bucket(x, buckets);
@@ -100,7 +100,7 @@ pub fn first_key(key: &[usize], n: usize) -> usize
 // Chains the first n rows, without a test of their keys.
 fn chain(key: &[usize], n: usize, heads: &mut [u16], next: &mut [u16], buckets: usize)
     requires { ⌜ n ≤ length (now key) ⌝ }
-    requires { ⌜ Room (now heads) (now next) buckets n ⌝ }
+    requires { ⌜ ChainRoom (now heads) (now next) buckets n ⌝ }
     requires { ⌜ Chained buckets (now key) (now heads) (now next) 0 ⌝ }
     ensures { λ _. ⌜ Chained buckets (now (key .entry)) (now (heads .exit)) (now (next .exit)) n ⌝ }
 {
@@ -141,14 +141,14 @@ fn clash_in(
 ) -> usize
     requires { ⌜ n ≤ length (now key) ⌝ }
     requires { ⌜ m ≤ length (now piece) ⌝ }
-    requires { ⌜ Room (now heads) (now next) buckets n ⌝ }
+    requires { ⌜ ChainRoom (now heads) (now next) buckets n ⌝ }
     requires { ⌜ Chained buckets (now key) (now heads) (now next) 0 ⌝ }
     ensures { λ r. ⌜ r ≡ firstClash (now (key .entry)) n (now (piece .entry)) m ⌝ }
 {
     chain(key, n, heads, next, buckets);
     let mut i = 0;
     while i < m {
-        if !fresh(key, heads, next, buckets, n, piece[i]) {
+        if !fresh(key, n, piece[i], heads, next, buckets) {
             return i;
         }
         i += 1;

@@ -14,9 +14,9 @@ use Rattle.tree.proofs.TreeLaws.{parent-below}
 use Rattle.tree.proofs.SoundLaws.{both, both-of}
 use Rattle.tree.proofs.AxisLaws.{same-test}
 use Rattle.marks.specs.RowSet.{Marked}
-use Rattle.marks.specs.Mark.{childIn, Joined, Hops, Turn}
-use Rattle.marks.proofs.HopLaws.{child-within, child-first, ChildIn, child-in, in-child}
-use Rattle.marks.proofs.TurnLaws.{marked-also, turn-row, turn-fits, turn-take}
+use Rattle.marks.specs.Mark.{childIn, Joined, AddsChildren, Turn}
+use Rattle.marks.proofs.ChildWalkLaws.{child-within, child-first, ChildIn, child-in, in-child}
+use Rattle.marks.proofs.ContextLaws.{marked-also, turn-row, turn-fits, turn-take}
 
 -- what the axis means
 module _ (level : List ℕ) (c w : ℕ) where
@@ -46,7 +46,7 @@ module _ {size level : List ℕ} {n : ℕ} {cs : List ℕ} {i : ℕ} {old : List
   first l = child-first (t .shape) C (turn-row t) (omega arith)
 
   -- a child that is in was put there by a context equal to this one
-  pub children-asks : Hops size level n C (C + 1) E old u
+  pub children-asks : AddsChildren size level n C (C + 1) E old u
   children-asks = record {
     shape = t .shape;
     row = turn-row t;

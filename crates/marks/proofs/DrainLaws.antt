@@ -17,10 +17,11 @@ use lib.Count.{trailingZeros}
 use Rattle.tree.specs.Table.{at}
 use Rattle.tree.specs.Search.{gather, only}
 use Rattle.tree.proofs.SearchLaws.{gather-zero, gather-suc, gather-skip, gather-grows, gather-ext}
-use Rattle.span.specs.Reach.{Wrote}
+use Rattle.span.specs.OneRole.{Wrote}
+use Rattle.span.specs.declared.want.Want.{Want}
 use Rattle.span.specs.Want.{fits}
 use Rattle.marks.specs.RowSet.{bit, has, inWord, WordDrains, Drains, Drained}
-use Rattle.marks.proofs.LeftLaws.{Left, left-start, left-none, left-high, left-low, left-skip, left-next}
+use Rattle.marks.proofs.BitsLeftLaws.{Left, left-start, left-none, left-high, left-low, left-skip, left-next}
 use Rattle.span.proofs.WroteLaws.{wrote-none, wrote-length, wrote-part}
 use Rattle.marks.proofs.RowSetLaws.{has-word, has-zero, unmarked-zero}
 use Rattle.marks.proofs.WordLaws.{wordRows}
@@ -97,10 +98,10 @@ set-start test old used out₀ l s = record {
   wrote = rw (gather-zero (holding test old)) (wrote-none out₀);
 }
 
-module _ {kind name : List ℕ} {n wantKind wantName : ℕ} {old : List ℕ} {used : ℕ} {out₀ : List ℕ}
-    (pre : Drains kind name n wantKind wantName old used out₀) where
+module _ {kind name : List ℕ} {n : ℕ} {want : Want} {old : List ℕ} {used : ℕ} {out₀ : List ℕ}
+    (pre : Drains kind name n want old used out₀) where
   abbrev test : ℕ → Bool
-  test = fits wantKind wantName kind name
+  test = fits want kind name
 
   -- no row from n on is in the set
   above : (w : ℕ) → n ≤ w → w < 4096 → has old w ≡ false
@@ -148,7 +149,7 @@ module _ {kind name : List ℕ} {n wantKind wantName : ℕ} {old : List ℕ} {us
         go false e = s .cleared j (leb-false _ _ e)
 
     -- no word is left
-    pub set-done : left ≡ 0 → Drained kind name n wantKind wantName old out₀ m words out
+    pub set-done : left ≡ 0 → Drained kind name n want old out₀ m words out
     set-done z =
         let none : (i : ℕ) → s .next ≤ i → bit used i ≡ false = left-none (s .rest) z in
         record {
@@ -191,7 +192,7 @@ module _ {kind name : List ℕ} {n wantKind wantName : ℕ} {old : List ℕ} {us
           ∙ ap₂ bit (sym (s .kept word (left-low (s .rest) some))) i ∙ e)
 
       -- its rows can be taken out
-      pub set-asks : WordDrains kind name (64 * word) (at words word) wantKind wantName (midOf m (length out - m) out)
+      pub set-asks : WordDrains kind name (64 * word) want (at words word) (midOf m (length out - m) out)
       set-asks = record {
         low = omega (arith, left-high (s .rest) some);
         in-kind = λ b l e. omega (arith, in-use b l e, pre .in-kind);

@@ -16,9 +16,9 @@ use Rattle.tree.proofs.TreeLaws.{parent-below}
 use Rattle.tree.proofs.SoundLaws.{both, both-of}
 use Rattle.tree.proofs.AxisLaws.{same-test, false-of}
 use Rattle.marks.specs.RowSet.{Marked}
-use Rattle.marks.specs.Mark.{childIn, Joined, Hops, Turn}
-use Rattle.marks.proofs.HopLaws.{child-within, child-first, ChildIn, child-in, in-child}
-use Rattle.marks.proofs.TurnLaws.{marked-also, turn-row, turn-drop, none-drop}
+use Rattle.marks.specs.Mark.{childIn, Joined, AddsChildren, Turn}
+use Rattle.marks.proofs.ChildWalkLaws.{child-within, child-first, ChildIn, child-in, in-child}
+use Rattle.marks.proofs.ContextLaws.{marked-also, turn-row, turn-drop, none-drop}
 use Rattle.marks.proofs.SiblingLaws.{earlier-on, on-earlier}
 
 module _ {size level : List ℕ} {n : ℕ} {cs : List ℕ} {i : ℕ} {old : List ℕ} {u : ℕ}
@@ -51,7 +51,7 @@ module _ {size level : List ℕ} {n : ℕ} {cs : List ℕ} {i : ℕ} {old : List
 
     -- an earlier sibling that is in was put there by a context not before this one, which reaches all before this
     -- one
-    pub earlier-asks : Hops size level n p (p + 1) C old u
+    pub earlier-asks : AddsChildren size level n p (p + 1) C old u
     earlier-asks = record {
       shape = t .shape;
       row = before-context p (parent-below level C p e);

@@ -19,9 +19,9 @@ use Rattle.tree.proofs.SoundLaws.{shape-fits, both, both-of}
 use Rattle.tree.proofs.AxisLaws.{same-test, false-of}
 use Rattle.span.proofs.SideLaws.{nests}
 use Rattle.marks.specs.RowSet.{Marked}
-use Rattle.marks.specs.Mark.{childIn, Joined, Hops, Turn}
-use Rattle.marks.proofs.HopLaws.{child-within, child-next, child-none, ChildIn, child-in, in-child}
-use Rattle.marks.proofs.TurnLaws.{marked-also, turn-row, turn-take, none-take}
+use Rattle.marks.specs.Mark.{childIn, Joined, AddsChildren, Turn}
+use Rattle.marks.proofs.ChildWalkLaws.{child-within, child-next, child-none, ChildIn, child-in, in-child}
+use Rattle.marks.proofs.ContextLaws.{marked-also, turn-row, turn-take, none-take}
 use Rattle.marks.proofs.SiblingLaws.{later-on, on-later}
 
 -- a root has none
@@ -102,7 +102,7 @@ module _ {size level : List ℕ} {n : ℕ} {cs : List ℕ} {i : ℕ} {old : List
     next l = later-first (t .shape) C p (turn-row t) e (omega arith)
 
     -- a later sibling that is in was put there by a context before it, which reaches all after it
-    pub later-asks : Hops size level n p (C + at size C + 1) (p + at size p + 1) old u
+    pub later-asks : AddsChildren size level n p (C + at size C + 1) (p + at size p + 1) old u
     later-asks = record {
       shape = t .shape;
       row = later-parent (t .shape) C p (turn-row t) e;

@@ -17,7 +17,7 @@ use Rattle.tree.proofs.AxisLaws.{same-test}
 use Rattle.marks.specs.RowSet.{Added, Marked}
 use Rattle.marks.specs.Mark.{Turn}
 use Rattle.marks.proofs.MarkLaws.{joined-add}
-use Rattle.marks.proofs.TurnLaws.{turn-row, turn-take, none-take, none-joined}
+use Rattle.marks.proofs.ContextLaws.{turn-row, turn-take, none-take, none-joined}
 
 pub axis-parent : (level : List ℕ) (c w : ℕ) → onAxis 5 level c w ≡ eqb (parent level c) (suc w)
 unfolding onAxis

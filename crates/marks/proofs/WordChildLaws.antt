@@ -1,5 +1,5 @@
 -- The children of a row that are in one word, gathered into its bits: their hops stay in the rows in
--- use (`gathers-hop`), none is gathered yet (`gathered-start`), one more is (`gathered-next`), and there is one
+-- use (`gathers-inside`), none is gathered yet (`gathered-start`), one more is (`gathered-next`), and there is one
 -- (`gathered-some`). Assumes nothing.
 use Prim.Native.Nat.{ℕ, suc, _+_, _-_, _*_, _/_, _%_, _^_, _<_, _≤_}
 use mathlib.Core.Path.{_≡_, refl, sym, ap, _∙_}
@@ -20,7 +20,7 @@ use Rattle.marks.specs.RowSet.{bit, inWord}
 use Rattle.marks.specs.Mark.{childIn, Gathers, Gathered}
 use Rattle.marks.proofs.BitLaws.{bit-zero, bit-nonzero}
 use Rattle.marks.proofs.RowSetLaws.{bit-with}
-use Rattle.marks.proofs.HopLaws.{row-in-use, child-next, child-none, child-empty, ChildIn, child-in, in-child}
+use Rattle.marks.proofs.ChildWalkLaws.{row-in-use, child-next, child-none, child-empty, ChildIn, child-in, in-child}
 
 -- a word that is 0 has no row
 word-zero : (base w : ℕ) → inWord base 0 w ≡ false
@@ -52,9 +52,9 @@ word-with j word v w h = go (leb (64 * j) w) refl
         sym (ap (λ (t : Bool). t || false) (ne-eqb w v (λ q. omega arith)))
 
 module _ {size level : List ℕ} {n p a e : ℕ} (h : Gathers size level n p a e) where
-  -- its hop stays in the columns
-  pub gathers-hop : (v : ℕ) → v < e → v + at size v < n
-  gathers-hop v q = omega (arith, shape-fits (h .shape) v (row-in-use (h .shape) (h .row) (h .inside) v q))
+  -- its add-children stays in the columns
+  pub gathers-inside : (v : ℕ) → v < e → v + at size v < n
+  gathers-inside v q = omega (arith, shape-fits (h .shape) v (row-in-use (h .shape) (h .row) (h .inside) v q))
 
   pub gathered-start : Gathered size level p a e a 0
   gathered-start = record {

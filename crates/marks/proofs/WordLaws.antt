@@ -14,10 +14,10 @@ use lib.Bits.{bitAnd}
 use lib.Count.{trailingZeros}
 use Rattle.tree.specs.Search.{gather}
 use Rattle.tree.proofs.SearchLaws.{gather-zero, gather-skip, gather-yes, gather-no, gather-grows}
-use Rattle.span.specs.Reach.{Wrote}
+use Rattle.span.specs.OneRole.{Wrote}
 use Rattle.marks.specs.RowSet.{bit, inWord}
-use Rattle.marks.proofs.LeftLaws.{Left, left-start, left-none, left-next}
-use Rattle.marks.proofs.LeftLaws.{left-high, left-low, left-set, left-skip}
+use Rattle.marks.proofs.BitsLeftLaws.{Left, left-start, left-none, left-next}
+use Rattle.marks.proofs.BitsLeftLaws.{left-high, left-low, left-set, left-skip}
 use Rattle.span.proofs.WroteLaws.{wrote-none, wrote-length, wrote-more}
 
 -- a row before the word is not in it

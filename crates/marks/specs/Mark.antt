@@ -9,7 +9,7 @@ use lib.ListN.{length}
 use Rattle.tree.specs.Table.{at}
 use Rattle.tree.specs.Tree.{parent}
 use Rattle.tree.specs.Rules.{Shape}
-use Rattle.span.specs.Reach.{Contexts}
+use Rattle.span.specs.OneRole.{Contexts}
 use Rattle.marks.specs.RowSet.{has, inWord, RowSet, Marked}
 
 -- a column of 4,096 zeros
@@ -32,7 +32,7 @@ pub record Joined (f : ℕ → Bool) (old new : List ℕ) (used : ℕ) : Type 0 
 
 -- the children of p at or after a and before e are to go in; a is the first, if there are any, and if a is in, all
 -- are
-pub record Hops (size level : List ℕ) (n p a e : ℕ) (words : List ℕ) (used : ℕ) : Type 0 where
+pub record AddsChildren (size level : List ℕ) (n p a e : ℕ) (words : List ℕ) (used : ℕ) : Type 0 where
   pub shape : Shape size level n
   pub row : p < n
   pub after : p < a

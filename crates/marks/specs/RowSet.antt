@@ -9,7 +9,8 @@ use lib.ListN.{length}
 use Rattle.tree.specs.Table.{at}
 use Rattle.tree.specs.Search.{gather}
 use Rattle.tree.specs.Rules.{Shape}
-use Rattle.span.specs.Reach.{anyOn, Contexts, Wrote}
+use Rattle.span.specs.OneRole.{anyOn, Contexts, Wrote}
+use Rattle.span.specs.declared.want.Want.{Want}
 use Rattle.span.specs.Want.{fits}
 
 -- bit b of a word is set
@@ -49,28 +50,28 @@ unfoldable pub inWord : ℕ → ℕ → ℕ → Bool
 inWord base word w = leb base w && bit word (w - base)
 
 -- row w is in the word and fits
-abbrev pub wordFits : List ℕ → List ℕ → ℕ → ℕ → ℕ → ℕ → ℕ → Bool
-wordFits kind name wantKind wantName base word w = inWord base word w && fits wantKind wantName kind name w
+abbrev pub wordFits : List ℕ → List ℕ → Want → ℕ → ℕ → ℕ → Bool
+wordFits kind name want base word w = inWord base word w && fits want kind name w
 
 -- what taking the rows out of one word asks for: they are in the columns, and those that fit have room
-pub record WordDrains (kind name : List ℕ) (base word wantKind wantName : ℕ) (out : List ℕ) : Type 0 where
+pub record WordDrains (kind name : List ℕ) (base : ℕ) (want : Want) (word : ℕ) (out : List ℕ) : Type 0 where
   pub low : base + 64 ≤ 4096
   pub in-kind : (b : ℕ) → b < 64 → bit word b ≡ true → base + b < length kind
   pub in-name : (b : ℕ) → b < 64 → bit word b ≡ true → base + b < length name
-  pub room : length (gather (wordFits kind name wantKind wantName base word) (base + 64)) ≤ length out
+  pub room : length (gather (wordFits kind name want base word) (base + 64)) ≤ length out
 
 -- what taking all rows out asks for: they are rows in use, and those that fit have room
-pub record Drains (kind name : List ℕ) (n wantKind wantName : ℕ) (words : List ℕ) (used : ℕ) (out : List ℕ)
+pub record Drains (kind name : List ℕ) (n : ℕ) (want : Want) (words : List ℕ) (used : ℕ) (out : List ℕ)
     : Type 0 where
   pub set : RowSet words used
   pub few : n ≤ 4096
   pub below : (w : ℕ) → w < 4096 → has words w ≡ true → w < n
   pub in-kind : n ≤ length kind
   pub in-name : n ≤ length name
-  pub room : length (gather (λ w. has words w && fits wantKind wantName kind name w) n) ≤ length out
+  pub room : length (gather (λ w. has words w && fits want kind name w) n) ≤ length out
 
 -- what it leaves: the rows that fit in front of out, and no row in the set
-pub record Drained (kind name : List ℕ) (n wantKind wantName : ℕ) (old out : List ℕ) (r : ℕ) (new out′ : List ℕ)
+pub record Drained (kind name : List ℕ) (n : ℕ) (want : Want) (old out : List ℕ) (r : ℕ) (new out′ : List ℕ)
     : Type 0 where
-  pub wrote : Wrote (gather (λ w. has old w && fits wantKind wantName kind name w) n) out r out′
+  pub wrote : Wrote (gather (λ w. has old w && fits want kind name w) n) out r out′
   pub blank : Blank new

@@ -2,7 +2,7 @@
 // cost is that of the contexts and of the rows that go in, each once: no walk goes on over rows that are in the set
 // already.
 use super::row_set;
-use super::walk::hop;
+use super::walk::add_children;
 ghost use Prim.Native.Nat.{_+_, _-_, _<_};
 ghost use mathlib.Core.Path.{_≡_};
 ghost use mathlib.Core.Bool.{cond};
@@ -10,12 +10,12 @@ ghost use lib.Dec.{eqb};
 ghost use lib.ListN.{length, take, drop};
 ghost use Rattle.tree.specs.Table.{at};
 ghost use Rattle.tree.specs.Rules.{Shape};
-ghost use Rattle.span.specs.Reach.{Parents, Roots};
+ghost use Rattle.span.specs.OneRole.{Parents, Roots};
 ghost use Rattle.marks.specs.RowSet.{Marks, Marked};
 ghost use Rattle.marks.specs.Mark.{Turn, Zeros, aboveOf};
 
 // One more than the row that stands above level l in the path, 0 at level 0.
-fn above(path: &[usize], l: usize) -> usize
+fn above(l: usize, path: &[usize]) -> usize
     requires { ⌜ (0 < l → (l < length (now path)) × (at (now path) (l - 1) < 4096)) ⌝ }
     ensures { λ r. ⌜ r ≡ aboveOf (now (path .entry)) l ⌝ }
 {
@@ -37,7 +37,7 @@ pub fn parents(size: &[usize], level: &[usize], count: usize, up: &mut [usize; 4
     let mut i: usize = 1;
     while i < count {
         let l = level[i];
-        all[i] = above(&path, l);
+        all[i] = above(l, &path);
         path[l] = i;
         i = i + 1;
     }
@@ -70,7 +70,7 @@ pub fn roots(size: &[usize], level: &[usize], count: usize, up: &mut [usize; 409
     }
 }
 
-// Marks the children of the context at place i.
+// Marks the children of context number i.
 fn children_of(
     size: &[usize],
     level: &[usize],
@@ -84,15 +84,15 @@ fn children_of(
     ensures { λ r. ⌜ Marked 2 (now (level .entry)) count (take (i + 1) (now (rows .entry))) (now (words .exit)) r ⌝ }
 {
     let c = rows[i];
-    hop(size, level, count, c, c + 1, c + size[c] + 1, words, used)
+    add_children(size, level, count, c, c + 1, c + size[c] + 1, words, used)
 }
 
-// Marks the parent of the context at place i, if it has one.
+// Marks the parent of context number i, if it has one.
 fn parent_of(
     size: &[usize],
     level: &[usize],
-    up: &[usize; 4096],
     count: usize,
+    up: &[usize; 4096],
     rows: &[usize],
     i: usize,
     words: &mut [u64; 64],
@@ -107,15 +107,15 @@ fn parent_of(
     if q == 0 {
         return used;
     }
-    row_set::add(words, used, q - 1)
+    row_set::add(q - 1, words, used)
 }
 
-// Marks the later siblings of the context at place i.
+// Marks the later siblings of context number i.
 fn later_siblings_of(
     size: &[usize],
     level: &[usize],
-    up: &[usize; 4096],
     count: usize,
+    up: &[usize; 4096],
     rows: &[usize],
     i: usize,
     words: &mut [u64; 64],
@@ -131,7 +131,7 @@ fn later_siblings_of(
         return used;
     }
     let p = q - 1;
-    hop(
+    add_children(
         size,
         level,
         count,
@@ -143,12 +143,12 @@ fn later_siblings_of(
     )
 }
 
-// Marks the earlier siblings of the context at place i; the contexts after it are marked.
+// Marks the earlier siblings of context number i; the contexts after it are marked.
 fn earlier_siblings_of(
     size: &[usize],
     level: &[usize],
-    up: &[usize; 4096],
     count: usize,
+    up: &[usize; 4096],
     rows: &[usize],
     i: usize,
     words: &mut [u64; 64],
@@ -164,7 +164,7 @@ fn earlier_siblings_of(
         return used;
     }
     let p = q - 1;
-    hop(size, level, count, p, p + 1, c, words, used)
+    add_children(size, level, count, p, p + 1, c, words, used)
 }
 
 // Axis 2: the children of the contexts.
@@ -191,8 +191,8 @@ pub fn mark_children(
 pub fn mark_parents(
     size: &[usize],
     level: &[usize],
-    up: &[usize; 4096],
     count: usize,
+    up: &[usize; 4096],
     rows: &[usize],
     words: &mut [u64; 64],
 ) -> u64
@@ -203,7 +203,7 @@ pub fn mark_parents(
     let mut used: u64 = 0;
     let mut i: usize = 0;
     while i < rows.len() {
-        used = parent_of(size, level, up, count, rows, i, words, used);
+        used = parent_of(size, level, count, up, rows, i, words, used);
         i = i + 1;
     }
     used
@@ -213,8 +213,8 @@ pub fn mark_parents(
 pub fn mark_later_siblings(
     size: &[usize],
     level: &[usize],
-    up: &[usize; 4096],
     count: usize,
+    up: &[usize; 4096],
     rows: &[usize],
     words: &mut [u64; 64],
 ) -> u64
@@ -225,7 +225,7 @@ pub fn mark_later_siblings(
     let mut used: u64 = 0;
     let mut i: usize = 0;
     while i < rows.len() {
-        used = later_siblings_of(size, level, up, count, rows, i, words, used);
+        used = later_siblings_of(size, level, count, up, rows, i, words, used);
         i = i + 1;
     }
     used
@@ -235,8 +235,8 @@ pub fn mark_later_siblings(
 pub fn mark_earlier_siblings(
     size: &[usize],
     level: &[usize],
-    up: &[usize; 4096],
     count: usize,
+    up: &[usize; 4096],
     rows: &[usize],
     words: &mut [u64; 64],
 ) -> u64
@@ -248,7 +248,7 @@ pub fn mark_earlier_siblings(
     let mut i = rows.len();
     while 0 < i {
         i = i - 1;
-        used = earlier_siblings_of(size, level, up, count, rows, i, words, used);
+        used = earlier_siblings_of(size, level, count, up, rows, i, words, used);
     }
     used
 }

@@ -1,15 +1,16 @@
 // A set of rows: 64 words of 64 bits, and a word `used` that says which of them hold a row.
+use span::want::Want;
 use span::want::fits_row;
 ghost use mathlib.Core.Path.{_≡_};
 ghost use Prim.Native.Nat.{_+_, _*_, _<_};
 ghost use lib.ListN.{length};
 ghost use Rattle.tree.specs.Search.{gather};
-ghost use Rattle.span.specs.Reach.{Wrote};
+ghost use Rattle.span.specs.OneRole.{Wrote};
 ghost use Rattle.marks.specs.RowSet.{has, RowSet, Added, inWord, wordFits, WordDrains, Drains, Drained};
 ghost use Rattle.marks.specs.Mark.{Joined};
 
 // Whether row x is in the set.
-pub(crate) fn holds(words: &[u64; 64], x: usize) -> bool
+pub(crate) fn holds(x: usize, words: &[u64; 64]) -> bool
     requires { ⌜ x < 4096 ⌝ }
     ensures { λ r. ⌜ r ≡ has (now (words .entry)) x ⌝ }
 {
@@ -17,15 +18,15 @@ pub(crate) fn holds(words: &[u64; 64], x: usize) -> bool
 }
 
 // Puts row x into the set; answers the new `used`.
-pub(crate) fn add(words: &mut [u64; 64], used: u64, x: usize) -> u64
+pub(crate) fn add(x: usize, words: &mut [u64; 64], used: u64) -> u64
     requires { ⌜ (x < 4096) × RowSet (now words) used ⌝ }
     ensures { λ r. ⌜ Added (now (words .entry)) x (now (words .exit)) r ⌝ }
 {
-    add_row(words, used, x)
+    add_row(x, words, used)
 }
 
 // What `add` does, on the words as a slice, whose length its contract can name.
-fn add_row(words: &mut [u64], used: u64, x: usize) -> u64
+fn add_row(x: usize, words: &mut [u64], used: u64) -> u64
     requires { ⌜ (length (now words) ≡ 64) × (x < 4096) × RowSet (now words) used ⌝ }
     ensures { λ r. ⌜ Added (now (words .entry)) x (now (words .exit)) r ⌝ }
 {
@@ -35,15 +36,15 @@ fn add_row(words: &mut [u64], used: u64, x: usize) -> u64
 }
 
 // Puts rows of word j into the set, those whose bits are set, at least one; answers the new `used`.
-pub(crate) fn add_bits(words: &mut [u64; 64], used: u64, j: usize, bits: u64) -> u64
+pub(crate) fn add_bits(j: usize, bits: u64, words: &mut [u64; 64], used: u64) -> u64
     requires { ⌜ (j < 64) × RowSet (now words) used × (bits ≡ 0 → ⊥) ⌝ }
     ensures { λ r. ⌜ Joined (inWord (64 * j) bits) (now (words .entry)) (now (words .exit)) r ⌝ }
 {
-    add_word(words, used, j, bits)
+    add_word(j, bits, words, used)
 }
 
 // What `add_bits` does, on the words as a slice, whose length its contract can name.
-fn add_word(words: &mut [u64], used: u64, j: usize, bits: u64) -> u64
+fn add_word(j: usize, bits: u64, words: &mut [u64], used: u64) -> u64
     requires { ⌜ (length (now words) ≡ 64) × (j < 64) × RowSet (now words) used × (bits ≡ 0 → ⊥) ⌝ }
     ensures { λ r. ⌜ Joined (inWord (64 * j) bits) (now (words .entry)) (now (words .exit)) r ⌝ }
 {
@@ -57,17 +58,16 @@ pub fn drain(
     kind: &[usize],
     name: &[usize],
     count: usize,
-    want_kind: usize,
-    want_name: usize,
+    want: Want,
     words: &mut [u64; 64],
     used: u64,
     out: &mut [usize],
 ) -> usize
-    requires { ⌜ Drains (now kind) (now name) count «want_kind» «want_name» (now words) used (now out) ⌝ }
-    ensures { λ r. ⌜ Drained (now (kind .entry)) (now (name .entry)) count «want_kind» «want_name»
+    requires { ⌜ Drains (now kind) (now name) count want (now words) used (now out) ⌝ }
+    ensures { λ r. ⌜ Drained (now (kind .entry)) (now (name .entry)) count want
         (now (words .entry)) (now (out .entry)) r (now (words .exit)) (now (out .exit)) ⌝ }
 {
-    drain_rows(kind, name, count, want_kind, want_name, words, used, out)
+    drain_rows(kind, name, count, want, words, used, out)
 }
 
 // What `drain` does, on the words as a slice, whose length its contract can name.
@@ -75,15 +75,14 @@ fn drain_rows(
     kind: &[usize],
     name: &[usize],
     count: usize,
-    want_kind: usize,
-    want_name: usize,
+    want: Want,
     words: &mut [u64],
     used: u64,
     out: &mut [usize],
 ) -> usize
     requires { ⌜ (length (now words) ≡ 64)
-        × Drains (now kind) (now name) count «want_kind» «want_name» (now words) used (now out) ⌝ }
-    ensures { λ r. ⌜ Drained (now (kind .entry)) (now (name .entry)) count «want_kind» «want_name»
+        × Drains (now kind) (now name) count want (now words) used (now out) ⌝ }
+    ensures { λ r. ⌜ Drained (now (kind .entry)) (now (name .entry)) count want
         (now (words .entry)) (now (out .entry)) r (now (words .exit)) (now (out .exit)) ⌝ }
 {
     let mut left = used;
@@ -93,7 +92,7 @@ fn drain_rows(
         let word = words[j];
         words[j] = 0;
         let part = &mut out[at..];
-        at = at + drain_word(kind, name, 64 * j, word, want_kind, want_name, part);
+        at = at + drain_word(kind, name, 64 * j, want, word, part);
         left = left & (left - 1);
     }
     at
@@ -104,20 +103,19 @@ fn drain_word(
     kind: &[usize],
     name: &[usize],
     base: usize,
+    want: Want,
     word: u64,
-    want_kind: usize,
-    want_name: usize,
     out: &mut [usize],
 ) -> usize
-    requires { ⌜ WordDrains (now kind) (now name) base word «want_kind» «want_name» (now out) ⌝ }
-    ensures { λ r. ⌜ Wrote (gather (wordFits (now (kind .entry)) (now (name .entry)) «want_kind» «want_name» base word)
+    requires { ⌜ WordDrains (now kind) (now name) base want word (now out) ⌝ }
+    ensures { λ r. ⌜ Wrote (gather (wordFits (now (kind .entry)) (now (name .entry)) want base word)
         (base + 64)) (now (out .entry)) r (now (out .exit)) ⌝ }
 {
     let mut rest = word;
     let mut at: usize = 0;
     while rest != 0 {
         let w = base + u64::trailing_zeros(rest) as usize;
-        if fits_row(kind, name, want_kind, want_name, w) {
+        if fits_row(kind, name, w, want) {
             out[at] = w;
             at = at + 1;
         }

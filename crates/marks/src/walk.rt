@@ -1,7 +1,7 @@
 // The walk that puts rows into a set of rows, from child to child. The cost is that of the rows that go in.
 use super::row_set;
 ghost use Prim.Native.Nat.{_+_, _*_, _/_, _<_, _≤_};
-ghost use Rattle.marks.specs.Mark.{childIn, Joined, Hops, Gathers, Gathered};
+ghost use Rattle.marks.specs.Mark.{childIn, Joined, AddsChildren, Gathers, Gathered};
 
 // Where a walk over one word is: the next row, and the bits of the rows met.
 struct Spot {
@@ -11,7 +11,7 @@ struct Spot {
 
 // Puts the children of row p from row `from` on and before row `end` into the set. Where the first is in already,
 // all are.
-pub(crate) fn hop(
+pub(crate) fn add_children(
     size: &[usize],
     level: &[usize],
     count: usize,
@@ -21,20 +21,20 @@ pub(crate) fn hop(
     words: &mut [u64; 64],
     used: u64,
 ) -> u64
-    requires { ⌜ Hops (now size) (now level) count p from end (now words) used ⌝ }
+    requires { ⌜ AddsChildren (now size) (now level) count p from end (now words) used ⌝ }
     ensures { λ r. ⌜ Joined (childIn (now (level .entry)) p from end) (now (words .entry)) (now (words .exit)) r ⌝ }
 {
     if end <= from {
         return used;
     }
-    if row_set::holds(words, from) {
+    if row_set::holds(from, words) {
         return used;
     }
     let mut mark = used;
     let mut w = from;
     while w < end {
         let s = children_in_word(size, level, count, p, w, word_end(w, end));
-        mark = row_set::add_bits(words, mark, w / 64, s.word);
+        mark = row_set::add_bits(w / 64, s.word, words, mark);
         w = s.row;
     }
     mark

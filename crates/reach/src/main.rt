@@ -2,6 +2,7 @@
 // result with the key of its row, then the number of results and the kept count.
 use io::print_decimal;
 use libc::STDOUT_FILENO;
+use tree::Ask;
 use tree::Stepped;
 
 // Writes a number and what stands behind it.
@@ -10,8 +11,8 @@ fn print_number(n: usize, behind: &[u8]) {
     io::write_all(STDOUT_FILENO, behind);
 }
 
-// Writes the result at place i, a line: role, row, key of that row. What is out of reach is left out.
-fn print_line(role: &[usize], row: &[usize], key: &[usize], i: usize) {
+// Writes result number i, a line: role, row, key of that row. What is out of reach is left out.
+fn print_line(key: &[usize], role: &[usize], row: &[usize], i: usize) {
     if i < role.len() {
         print_number(role[i], b" ");
     }
@@ -25,10 +26,10 @@ fn print_line(role: &[usize], row: &[usize], key: &[usize], i: usize) {
 }
 
 // Writes the first n results.
-fn print_results(role: &[usize], row: &[usize], key: &[usize], n: usize) {
+fn print_results(key: &[usize], role: &[usize], row: &[usize], n: usize) {
     let mut i = 0;
     while i < n {
-        print_line(role, row, key, i);
+        print_line(key, role, row, i);
         i += 1;
     }
 }
@@ -52,9 +53,11 @@ fn main() {
         10,
         &role,
         &row,
-        3,
-        2,
-        4,
+        Ask {
+            axis: 3,
+            test: 2,
+            name: 4,
+        },
         &mut out_role,
         &mut out_row,
     );
@@ -65,7 +68,7 @@ fn main() {
         }
         Stepped::Listed(results, kept) => {
             io::write_all(STDOUT_FILENO, b"role row key\n");
-            print_results(&out_role, &out_row, &key, results);
+            print_results(&key, &out_role, &out_row, results);
             io::write_all(STDOUT_FILENO, b"pairs ");
             print_number(results, b" kept ");
             print_number(kept, b"\n");

@@ -1,1 +1,1 @@
-pub mod OnlyLaws
+pub mod AnswerOnlyLaws

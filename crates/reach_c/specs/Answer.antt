@@ -42,7 +42,7 @@ stepAnswer (Listed n k) = accepted n k (pos 0)
 stepAnswer (NotListed n p) = refused n p
 
 -- a step's answer as C's struct, and both result columns, are those of the outcome
-pub record StepLeaves (o : StepOutcome) (answer : Answer) (role row : List ℕ) : Type 0 where
+pub record StepAnswers (o : StepOutcome) (answer : Answer) (role row : List ℕ) : Type 0 where
   pub answers : answer ≡ stepAnswer (o .answer)
   pub role-is : role ≡ o .role
   pub row-is : row ≡ o .row
@@ -53,7 +53,7 @@ editAnswer (Made d) = accepted (d .count) (d .first) (d .moved)
 editAnswer (NotMade n p) = refused n p
 
 -- an edit's answer as C's struct, and all five columns, are those of the outcome
-pub record EditLeaves (o : EditOutcome) (answer : Answer) (key size level kind name : List ℕ) : Type 0 where
+pub record EditAnswers (o : EditOutcome) (answer : Answer) (key size level kind name : List ℕ) : Type 0 where
   pub answers : answer ≡ editAnswer (o .answer)
   pub key-is : key ≡ o .table .key
   pub size-is : size ≡ o .table .size
@@ -67,7 +67,7 @@ carryAnswer (Written n) = accepted n 0 (pos 0)
 carryAnswer (NotCarried n p) = refused n p
 
 -- the answer of carrying as C's struct, and both result columns, are those of the outcome
-pub record CarryLeaves (o : CarryOutcome) (answer : Answer) (role row : List ℕ) : Type 0 where
+pub record CarryAnswers (o : CarryOutcome) (answer : Answer) (role row : List ℕ) : Type 0 where
   pub answers : answer ≡ carryAnswer (o .answer)
   pub role-is : role ≡ o .role
   pub row-is : row ≡ o .row

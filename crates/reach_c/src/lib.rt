@@ -5,11 +5,12 @@ ghost use Rattle.tree.specs.Outcome.{checkOutcome, findOutcome, stepOutcome};
 ghost use Rattle.tree.specs.Outcome.{insertOutcome, deleteOutcome, renameOutcome};
 ghost use Rattle.tree.specs.Step.{askOf};
 ghost use Rattle.tree.specs.Carry.{carryOutcome};
-ghost use Rattle.reach_c.specs.Answer.{checkAnswer, findAnswer, StepLeaves, EditLeaves, CarryLeaves};
+ghost use Rattle.reach_c.specs.Answer.{checkAnswer, findAnswer, StepAnswers, EditAnswers, CarryAnswers};
 
 pub mod answer; // answer.rt: the library's answers as one struct
 
 use crate::answer::Answer;
+use tree::Ask;
 
 // Refusal 1 or 2, or that the table is sound.
 #[no_mangle]
@@ -63,7 +64,7 @@ pub extern "C" fn reach_step(
     out_role: &mut [usize],
     out_row: &mut [usize],
 ) -> Answer
-    ensures { λ r. ⌜ StepLeaves (stepOutcome
+    ensures { λ r. ⌜ StepAnswers (stepOutcome
         (tableOf (now (key .entry)) (now (size .entry)) (now (level .entry))
         (now (kind .entry)) (now (name .entry)) count)
         (now (role .entry)) (now (row .entry)) (askOf axis test «test_name»)
@@ -79,9 +80,11 @@ pub extern "C" fn reach_step(
         count,
         role,
         row,
-        axis,
-        test,
-        test_name,
+        Ask {
+            axis,
+            test,
+            name: test_name,
+        },
         out_role,
         out_row,
     ))
@@ -105,7 +108,7 @@ pub extern "C" fn reach_insert(
     p_name: &[usize],
     p_count: usize,
 ) -> Answer
-    ensures { λ r. ⌜ EditLeaves (insertOutcome
+    ensures { λ r. ⌜ EditAnswers (insertOutcome
         (tableOf (now (key .entry)) (now (size .entry)) (now (level .entry)) (now (kind .entry))
         (now (name .entry)) count) parent
         (tableOf (now («p_key» .entry)) (now («p_size» .entry)) (now («p_level» .entry)) (now («p_kind» .entry))
@@ -140,7 +143,7 @@ pub extern "C" fn reach_delete(
     count: usize,
     wanted: usize,
 ) -> Answer
-    ensures { λ r. ⌜ EditLeaves (deleteOutcome
+    ensures { λ r. ⌜ EditAnswers (deleteOutcome
         (tableOf (now (key .entry)) (now (size .entry)) (now (level .entry)) (now (kind .entry))
         (now (name .entry)) count) wanted) r
         (now (key .exit)) (now (size .exit)) (now (level .exit)) (now (kind .exit)) (now (name .exit)) ⌝ }
@@ -160,7 +163,7 @@ pub extern "C" fn reach_rename(
     wanted: usize,
     new_name: usize,
 ) -> Answer
-    ensures { λ r. ⌜ EditLeaves (renameOutcome
+    ensures { λ r. ⌜ EditAnswers (renameOutcome
         (tableOf (now (key .entry)) (now (size .entry)) (now (level .entry)) (now (kind .entry))
         (now (name .entry)) count) wanted «new_name») r
         (now (key .exit)) (now (size .exit)) (now (level .exit)) (now (kind .exit)) (now (name .exit)) ⌝ }
@@ -180,7 +183,7 @@ pub extern "C" fn reach_carry(
     out_role: &mut [usize],
     out_row: &mut [usize],
 ) -> Answer
-    ensures { λ r. ⌜ CarryLeaves (carryOutcome (now (role .entry)) (now (row .entry)) «old_count» first moved
+    ensures { λ r. ⌜ CarryAnswers (carryOutcome (now (role .entry)) (now (row .entry)) «old_count» first moved
         (now («out_role» .entry)) (now («out_row» .entry)))
         r (now («out_role» .exit)) (now («out_row» .exit)) ⌝ }
 {

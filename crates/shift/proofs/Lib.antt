@@ -1,3 +1,3 @@
-pub mod MoveLaws
-pub mod MovedLaws
+pub mod MoverLaws
+pub mod SignedMoveLaws
 pub mod SizePassLaws

@@ -20,7 +20,7 @@ use Rattle.tree.proofs.SoundLaws.{shape-steps, shape-fits, shape-descendants}
 use Rattle.tree.proofs.AxisLaws.{ancestor-is, same-test}
 use Rattle.tree.proofs.ColumnLaws.{changed-at, changed-after, length-changed}
 use Rattle.shift.specs.Enclosing.{encloses, reaches, raised, lowered, Raisable, Lowerable}
-use Rattle.shift.proofs.MoveLaws.{Put, put-turn, put-end, put-read}
+use Rattle.shift.proofs.MoverLaws.{Put, put-turn, put-end, put-read}
 
 -- two tests that agree change the same
 pub changed-ext : (f h : ℕ → Bool) (g : ℕ → ℕ) (xs : List ℕ) → ((i : ℕ) → f i ≡ h i) → changed f g xs ≡ changed h g xs

@@ -6,7 +6,7 @@ use mathlib.Core.Bool.{Bool, _&&_}
 use mathlib.Core.List.{List}
 use lib.Dec.{ltb, leb}
 use lib.ListN.{length}
-use Rattle.tree.specs.Table.{at}
+use Rattle.tree.specs.Table.{mostRows, at}
 use Rattle.tree.specs.Edit.{changed}
 
 -- row i is before row r and its rows reach row r
@@ -25,11 +25,11 @@ raised size r by = changed (reaches size r) (λ s. s + by) size
 abbrev pub lowered : List ℕ → ℕ → ℕ → List ℕ
 lowered size r by = changed (encloses size r) (λ s. s - by) size
 
--- no sum of a size and by, at the rows up to r, is more than twice 4,096
+-- no sum of a size and by, at the rows up to r, is more than twice `mostRows`
 pub record Raisable (size : List ℕ) (r by : ℕ) : Type 0 where
   pub within : r < length size
-  pub few : by ≤ 4096
-  pub small : (i : ℕ) → i ≤ r → at size i ≤ 4096
+  pub few : by ≤ mostRows
+  pub small : (i : ℕ) → i ≤ r → at size i ≤ mostRows
 
 -- each row before r that reaches it has at least by rows
 pub record Lowerable (size : List ℕ) (r by : ℕ) : Type 0 where

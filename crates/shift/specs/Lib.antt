@@ -1,3 +1,3 @@
 pub mod Part
-pub mod Moved
+pub mod Done
 pub mod Enclosing

@@ -1,5 +1,5 @@
 -- What the movers leave of a column, or of the part of it that is lent to them. No contract of an entry
--- point cites it. That these make 01's opened and closed columns is in proofs/MoveLaws.antt. Assumes nothing.
+-- point cites it. That these make 01's opened and closed columns is in proofs/MoverLaws.antt. Assumes nothing.
 use Prim.Native.Nat.{ℕ, _+_, _-_}
 use mathlib.Core.List.{List, _++_}
 use lib.ListN.{take, drop, replicate}

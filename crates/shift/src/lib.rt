@@ -2,4 +2,4 @@
 
 pub mod mover; // mover.rt: a column opens for a piece, closes up, or is cleared
 pub mod sizes; // sizes.rt: the sizes of the rows before an edited row
-pub mod moved; // moved.rt: the answer of an edit
+pub mod done; // done.rt: the answer of an edit

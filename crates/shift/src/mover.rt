@@ -98,7 +98,7 @@ fn open_part_raised(part: &mut [usize], n: usize, piece: &[usize], by: usize, ad
 }
 
 // Opens a gap in a column of n rows in use, and writes by rows of a piece into it.
-pub fn open_column(column: &mut [usize], gap: usize, n: usize, piece: &[usize], by: usize)
+pub fn open_column(column: &mut [usize], n: usize, gap: usize, piece: &[usize], by: usize)
     requires { ⌜ gap ≤ n ⌝ }
     requires { ⌜ n + by ≤ length (now column) ⌝ }
     requires { ⌜ by ≤ length (now piece) ⌝ }
@@ -111,8 +111,8 @@ pub fn open_column(column: &mut [usize], gap: usize, n: usize, piece: &[usize], 
 // The same with the rows of the piece raised.
 pub fn open_column_raised(
     column: &mut [usize],
-    gap: usize,
     n: usize,
+    gap: usize,
     piece: &[usize],
     by: usize,
     add: usize,
@@ -130,7 +130,7 @@ pub fn open_column_raised(
 
 // Takes by rows out of a column of n rows in use, from a row on: later rows close up, the freed rows stay as they
 // were.
-pub fn close_column(column: &mut [usize], row: usize, n: usize, by: usize)
+pub fn close_column(column: &mut [usize], n: usize, row: usize, by: usize)
     requires { ⌜ row + by ≤ n ⌝ }
     requires { ⌜ n ≤ length (now column) ⌝ }
     ensures { λ _. ⌜ now (column .exit) ≡ pulled row n by (now (column .entry)) ⌝ }

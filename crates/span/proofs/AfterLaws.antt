@@ -16,13 +16,13 @@ use Rattle.tree.specs.Axis.{onAxis}
 use Rattle.tree.proofs.TreeLaws.{less?}
 use Rattle.tree.proofs.SoundLaws.{both-of}
 use Rattle.tree.proofs.RootLaws.{following-range}
-use Rattle.span.specs.Want.{fits}
-use Rattle.span.specs.Reach.{anyOn, oneRole, RoleIn, Roots, Wrote}
+use Rattle.span.specs.Want.{Want, fits}
+use Rattle.span.specs.OneRole.{anyOn, oneRole, RoleIn, Roots, Wrote}
 use Rattle.span.specs.Range.{rowsIn, Appended, RangeIn, EndsIn, firstAfter, PastTree}
 use Rattle.span.proofs.RangeLaws.{contexts-rise, any-hit, any-miss, Covered, cover-start, cover-skip}
 use Rattle.span.proofs.RangeLaws.{cover-range, cover-asks, cover-done}
-use Rattle.span.proofs.TurnLaws.{root-of, low as tree-low, end-in as tree-in, same-root as tree-same}
-use Rattle.span.proofs.TurnLaws.{end-le, later-root}
+use Rattle.span.proofs.TreeContextLaws.{root-of, low as tree-low, end-in as tree-in, same-root as tree-same}
+use Rattle.span.proofs.TreeContextLaws.{end-le, later-root}
 use Rattle.span.proofs.SideLaws.{after-least, after-met, after-le, nests}
 
 -- the contexts of places i to j
@@ -37,9 +37,9 @@ pub record Turned (size level : List ℕ) (n : ℕ) (test : ℕ → Bool) (cs d 
   pub done : (k : ℕ) → k < i → at top (at cs k) + at size (at top (at cs k)) < pos
   pub ahead : (k : ℕ) → i ≤ k → k < length cs → pos ≤ at top (at cs k)
 
-module _ {size level kind name : List ℕ} {n wk wn : ℕ} {cs d top : List ℕ}
-    (pre : RoleIn 8 size level kind name n wk wn cs d) (roots : Roots level n top) where
-  pub after-start : Turned size level n (fits wk wn kind name) cs d top d 0 0
+module _ {size level kind name : List ℕ} {n : ℕ} {want : Want} {cs d top : List ℕ}
+    (pre : RoleIn 8 size level kind name n cs want d) (roots : Roots level n top) where
+  pub after-start : Turned size level n (fits want kind name) cs d top d 0 0
   after-start = record {
     few = omega arith;
     pos = 0;
@@ -70,13 +70,13 @@ module _ {size level kind name : List ℕ} {n wk wn : ℕ} {cs d top : List ℕ}
       ∙ and-false (ltb (at cs k + at size (at cs k)) w)
 
   -- once no context is left
-  pub after-done : {out : List ℕ} {next i : ℕ} → Turned size level n (fits wk wn kind name) cs d top out next i
+  pub after-done : {out : List ℕ} {next i : ℕ} → Turned size level n (fits want kind name) cs d top out next i
       → length cs ≤ i
-      → Wrote (oneRole 8 level n (fits wk wn kind name) cs) d next out
+      → Wrote (oneRole 8 level n (fits want kind name) cs) d next out
   after-done t e = cover-done (t .covered)
       (λ w a b. any-miss 8 level cs w (λ k l. not-in-tree k w l b (omega (arith, t .done k (omega arith)))))
 
-  module _ {out : List ℕ} {next i : ℕ} (t : Turned size level n (fits wk wn kind name) cs d top out next i)
+  module _ {out : List ℕ} {next i : ℕ} (t : Turned size level n (fits want kind name) cs d top out next i)
       (m : i < length cs) {j : ℕ}
       (q : PastTree cs i (at top (at cs i) + at size (at top (at cs i)) + 1) j) where
     abbrev r : ℕ
@@ -193,16 +193,16 @@ module _ {size level kind name : List ℕ} {n wk wn : ℕ} {cs d top : List ℕ}
           hit w (i + z .0) (omega arith) (omega arith) (omega (arith, z .2)) y)
           (after-met size end (some-of i j cs) (length (some-of i j cs)))
 
-      reached-from : Covered 8 level n (fits wk wn kind name) cs d out next a
+      reached-from : Covered 8 level n (fits want kind name) cs d out next a
       reached-from = cover-skip (t .covered) a from-root (omega (arith, most, end-in)) skipped
 
-      pub after-asks : RangeIn kind name a (at top (at cs i) + at size (at top (at cs i)) + 1) wk wn out next
+      pub after-asks : RangeIn kind name a (at top (at cs i) + at size (at top (at cs i)) + 1) want out next
       after-asks = cover-asks pre reached-from end most (end-le (pre .shape) (pre .contexts) roots m q) listed
 
       pub after-turn : {s : ℕ} {new : List ℕ}
-          → Appended (rowsIn (fits wk wn kind name) a (at top (at cs i) + at size (at top (at cs i)) + 1))
+          → Appended (rowsIn (fits want kind name) a (at top (at cs i) + at size (at top (at cs i)) + 1))
           out next s new
-          → Turned size level n (fits wk wn kind name) cs d top new s j
+          → Turned size level n (fits want kind name) cs d top new s j
       after-turn g = record {
         few = q .to;
         pos = end;

@@ -7,7 +7,7 @@ use native.Mathlib.Omega.{arith}
 use lib.ListN.{length, getD, take, drop, set, length-append, length-take, length-drop, take-append-drop}
 use lib.Seq.{set-at, take-at, drop-at, drop-cons, drop-drop, append-snoc}
 use Rattle.tree.specs.Outcome.{overwritten}
-use Rattle.span.specs.Reach.{Wrote}
+use Rattle.span.specs.OneRole.{Wrote}
 use Rattle.span.specs.Range.{Appended}
 
 -- the same, of an equal list
@@ -104,6 +104,6 @@ appended-then {xs} {ys} {d} {new = new} {p} {r = r} l g h = ends d p l
     (subst (λ (zs : List ℕ). Wrote zs d r new) (append-assoc (take p d) xs ys) (wrote-appended (begins d p l g) h))
 
 -- two answers that a contract of this kind allows are equal, and so are the columns
-pub appended-only : {xs old : List ℕ} {place r s : ℕ} {a b : List ℕ} → Appended xs old place r a
-    → Appended xs old place s b → (r ≡ s) × (a ≡ b)
+pub appended-only : {xs old : List ℕ} {written r s : ℕ} {a b : List ℕ} → Appended xs old written r a
+    → Appended xs old written s b → (r ≡ s) × (a ≡ b)
 appended-only p q = (p .many ∙ sym (q .many), p .holds ∙ sym (q .holds))

@@ -17,12 +17,12 @@ use Rattle.tree.specs.Rules.{Shape}
 use Rattle.tree.proofs.TreeLaws.{less?}
 use Rattle.tree.proofs.SoundLaws.{both-of}
 use Rattle.tree.proofs.RootLaws.{preceding-range}
-use Rattle.span.specs.Want.{fits}
-use Rattle.span.specs.Reach.{anyOn, oneRole, Contexts, RoleIn, Roots, Wrote}
+use Rattle.span.specs.Want.{Want, fits}
+use Rattle.span.specs.OneRole.{anyOn, oneRole, Contexts, RoleIn, Roots, Wrote}
 use Rattle.span.specs.Range.{rowsIn, Appended, RangeIn, PastTree, Ended}
 use Rattle.span.proofs.RangeLaws.{contexts-rise, any-hit, any-miss, Covered, cover-start, cover-skip}
 use Rattle.span.proofs.RangeLaws.{cover-range, cover-asks, cover-done}
-use Rattle.span.proofs.TurnLaws.{root-of, same-root, later-root, turn-less}
+use Rattle.span.proofs.TreeContextLaws.{root-of, same-root, later-root, turn-less}
 
 -- the contexts before place i are not after row pos, and the trees of those from i on lie ahead of it
 pub record Behind (level : List ℕ) (n : ℕ) (test : ℕ → Bool) (cs d top out : List ℕ) (next i : ℕ) : Type 0 where
@@ -39,9 +39,9 @@ pub record Within (level : List ℕ) (n : ℕ) (test : ℕ → Bool) (cs out₀ 
   pub to : w ≤ c + 1
   pub carries : (d : List ℕ) → Covered 9 level n test cs d out₀ next₀ r → Covered 9 level n test cs d out next w
 
-pub before-start : {size level kind name : List ℕ} {n wk wn : ℕ} {cs d top : List ℕ}
-    → RoleIn 9 size level kind name n wk wn cs d → Roots level n top
-    → Behind level n (fits wk wn kind name) cs d top d 0 0
+pub before-start : {size level kind name : List ℕ} {n : ℕ} {want : Want} {cs d top : List ℕ}
+    → RoleIn 9 size level kind name n cs want d → Roots level n top
+    → Behind level n (fits want kind name) cs d top d 0 0
 before-start pre roots = record {
   few = omega arith;
   pos = 0;
@@ -171,12 +171,12 @@ module _ {size level : List ℕ} {n : ℕ} {cs top : List ℕ} (sh : Shape size 
     }
 
 -- what the scan of a range asks for
-pub before-asks : {size level kind name : List ℕ} {n wk wn : ℕ} {cs d top out₀ out : List ℕ} {i j next₀ next w o : ℕ}
-    (pre : RoleIn 9 size level kind name n wk wn cs d) (roots : Roots level n top) (m : i < length cs)
+pub before-asks : {size level kind name : List ℕ} {n : ℕ} {want : Want} {cs d top out₀ out : List ℕ} {i j next₀ next w o : ℕ}
+    (pre : RoleIn 9 size level kind name n cs want d) (roots : Roots level n top) (m : i < length cs)
     (q : PastTree cs i (at top (at cs i) + at size (at top (at cs i)) + 1) j)
-    → Behind level n (fits wk wn kind name) cs d top out₀ next₀ i
-    → Within level n (fits wk wn kind name) cs out₀ next₀ (at top (at cs i)) (at cs (j - 1)) out next w
-    → w < at cs (j - 1) → Ended size (at cs (j - 1)) w o → RangeIn kind name w o wk wn out next
+    → Behind level n (fits want kind name) cs d top out₀ next₀ i
+    → Within level n (fits want kind name) cs out₀ next₀ (at top (at cs i)) (at cs (j - 1)) out next w
+    → w < at cs (j - 1) → Ended size (at cs (j - 1)) w o → RangeIn kind name w o want out next
 before-asks {d = d} {o = o} pre roots m q b t l e =
     cover-asks pre (t .carries d (at-root (pre .shape) (pre .contexts) roots m q b)) o (e .from)
     (omega (arith, inside (pre .shape) (pre .contexts) roots m q t l e))

@@ -13,8 +13,8 @@ use Rattle.tree.specs.Search.{gather}
 use Rattle.tree.specs.Table.{at}
 use Rattle.tree.specs.Axis.{onAxis}
 use Rattle.tree.proofs.SearchLaws.{gather-zero, gather-skip, gather-grows}
-use Rattle.span.specs.Want.{fits}
-use Rattle.span.specs.Reach.{anyOn, oneRole, Contexts, RoleIn, Wrote}
+use Rattle.span.specs.Want.{Want, fits}
+use Rattle.span.specs.OneRole.{anyOn, oneRole, Contexts, RoleIn, Wrote}
 use Rattle.span.specs.Range.{rowsIn, Appended, RangeIn}
 use Rattle.span.proofs.WroteLaws.{wrote-as, wrote-none, wrote-length}
 use Rattle.span.proofs.AppendedLaws.{wrote-appended}
@@ -136,19 +136,19 @@ module _ {axis n next pos : ℕ} {level cs d out : List ℕ} {test : ℕ → Boo
         → Covered axis level n test cs d new r to
     cover-range = cover-part to l m (λ w. true) h
 
-module _ {axis : ℕ} {size level kind name : List ℕ} {n wk wn : ℕ} {cs d : List ℕ}
-    (pre : RoleIn axis size level kind name n wk wn cs d) where
-  pub cover-start : Covered axis level n (fits wk wn kind name) cs d d 0 0
+module _ {axis : ℕ} {size level kind name : List ℕ} {n : ℕ} {want : Want} {cs d : List ℕ}
+    (pre : RoleIn axis size level kind name n cs want d) where
+  pub cover-start : Covered axis level n (fits want kind name) cs d d 0 0
   cover-start = record {
     room = pre .room;
     inside = omega arith;
-    wrote = wrote-as (sym (role-none axis level (fits wk wn kind name) cs)) (wrote-none d);
+    wrote = wrote-as (sym (role-none axis level (fits want kind name) cs)) (wrote-none d);
   }
 
   -- what the scan of a range on a context's axis asks for
-  pub cover-asks : {out : List ℕ} {next pos : ℕ} → Covered axis level n (fits wk wn kind name) cs d out next pos
+  pub cover-asks : {out : List ℕ} {next pos : ℕ} → Covered axis level n (fits want kind name) cs d out next pos
       → (to : ℕ) → pos ≤ to → to ≤ n → ((w : ℕ) → pos ≤ w → w < to → anyOn axis level cs w ≡ true)
-      → RangeIn kind name pos to wk wn out next
+      → RangeIn kind name pos to want out next
   cover-asks s to l m h = record {
     order = l;
     in-kind = omega (arith, pre .in-kind);

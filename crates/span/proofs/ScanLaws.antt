@@ -13,7 +13,7 @@ use lib.Dec.{leb}
 use lib.ListN.{length, take, drop, set, length-append, length-take, length-drop}
 use Rattle.tree.specs.Search.{gather, only}
 use Rattle.tree.proofs.SearchLaws.{only-none, only-one, gather-zero, gather-suc, gather-skip}
-use Rattle.span.specs.Want.{fits}
+use Rattle.span.specs.Want.{Want, fits}
 use Rattle.span.specs.Range.{rowsFrom, rowsIn, Appended, ScanIn, RangeIn}
 use Rattle.span.proofs.AppendedLaws.{appended-as, appended-none, appended-more, appended-length}
 
@@ -138,17 +138,17 @@ rows-skip f from to h =
 
 -- ── the loop ──
 -- the rows of the first i places are appended, and next is the place after them
-pub record Scanning (from : ℕ) (f : ℕ → Bool) (k : ℕ) (d : List ℕ) (place : ℕ) (out : List ℕ) (next i : ℕ)
+pub record Scanning (from : ℕ) (f : ℕ → Bool) (k : ℕ) (d : List ℕ) (written : ℕ) (out : List ℕ) (next i : ℕ)
     : Type 0 where
   pub index : i ≤ k
-  pub appends : Appended (rowsFrom from f i) d place next out
+  pub appends : Appended (rowsFrom from f i) d written next out
 
-module _ {from : ℕ} {f : ℕ → Bool} {k : ℕ} {d : List ℕ} {place : ℕ} where
-  pub scan-start : Scanning from f k d place d place 0
-  scan-start = record { index = omega arith; appends = appended-as (sym (rows-none from f)) (appended-none d place) }
+module _ {from : ℕ} {f : ℕ → Bool} {k : ℕ} {d : List ℕ} {written : ℕ} where
+  pub scan-start : Scanning from f k d written d written 0
+  scan-start = record { index = omega arith; appends = appended-as (sym (rows-none from f)) (appended-none d written) }
 
-  module _ (asks : ScanIn from f k d place) {out : List ℕ} {next i : ℕ}
-      (s : Scanning from f k d place out next i) where
+  module _ (asks : ScanIn from f k d written) {out : List ℕ} {next i : ℕ}
+      (s : Scanning from f k d written out next i) where
     pub scan-length : length out ≡ length d
     scan-length = appended-length (s .appends) (omega (arith, asks .room, rows-grow from f i k (s .index)))
 
@@ -165,42 +165,42 @@ module _ {from : ℕ} {f : ℕ → Bool} {k : ℕ} {d : List ℕ} {place : ℕ} 
 
     module _ (less : i < k) {after : List ℕ} {then : ℕ} where
       -- a row that does not pass
-      pub scan-no : f i ≡ false → after ≡ out → then ≡ next → Scanning from f k d place after then (i + 1)
+      pub scan-no : f i ≡ false → after ≡ out → then ≡ next → Scanning from f k d written after then (i + 1)
       scan-no e p q =
-          subst₂ (λ (o : List ℕ) (m : ℕ). Scanning from f k d place o m (i + 1)) (sym p) (sym q)
+          subst₂ (λ (o : List ℕ) (m : ℕ). Scanning from f k d written o m (i + 1)) (sym p) (sym q)
           (record { index = omega arith; appends = appended-as (sym (rows-no from f i e)) (s .appends) })
 
       -- a row that passes
       pub scan-yes : f i ≡ true → after ≡ set out next (from + i) → then ≡ next + 1
-          → Scanning from f k d place after then (i + 1)
+          → Scanning from f k d written after then (i + 1)
       scan-yes e p q =
-          subst₂ (λ (o : List ℕ) (m : ℕ). Scanning from f k d place o m (i + 1)) (sym p) (sym q)
+          subst₂ (λ (o : List ℕ) (m : ℕ). Scanning from f k d written o m (i + 1)) (sym p) (sym q)
           (record {
             index = omega arith;
             appends = appended-as (sym (rows-yes from f i e)) (appended-more (from + i) (s .appends) (inside less e));
           })
 
-    pub scan-done : k ≤ i → Appended (rowsFrom from f k) d place next out
+    pub scan-done : k ≤ i → Appended (rowsFrom from f k) d written next out
     scan-done h =
-        subst (λ (j : ℕ). Appended (rowsFrom from f j) d place next out)
+        subst (λ (j : ℕ). Appended (rowsFrom from f j) d written next out)
         (let e : i ≡ k = omega (arith, s .index) in e) (s .appends)
 
 -- ── a range, scanned as a part of the columns ──
 -- k places of a part are the rows of the range, and pass the part's test exactly if they fit
-module _ {kind name out : List ℕ} {from to wk wn place : ℕ} (asks : RangeIn kind name from to wk wn out place)
+module _ {kind name out : List ℕ} {from to written : ℕ} {want : Want} (asks : RangeIn kind name from to want out written)
     {g : ℕ → Bool} {k : ℕ} (count : k ≡ to - from)
-    (same : (i : ℕ) → i < to - from → g i ≡ fits wk wn kind name (from + i)) where
-  range-rows : rowsFrom from g k ≡ rowsIn (fits wk wn kind name) from to
-  range-rows = ap (rowsFrom from g) count ∙ rows-ext from g (λ i. fits wk wn kind name (from + i)) (to - from) same
+    (same : (i : ℕ) → i < to - from → g i ≡ fits want kind name (from + i)) where
+  range-rows : rowsFrom from g k ≡ rowsIn (fits want kind name) from to
+  range-rows = ap (rowsFrom from g) count ∙ rows-ext from g (λ i. fits want kind name (from + i)) (to - from) same
 
-  pub range-asks : to < 2 ^ 64 → ScanIn from g k out place
+  pub range-asks : to < 2 ^ 64 → ScanIn from g k out written
   range-asks l = record {
     numbers = omega (arith, asks .order);
     room = omega (arith, asks .room, ap length range-rows);
   }
 
-  pub range-gives : {r : ℕ} {new : List ℕ} → Appended (rowsFrom from g k) out place r new
-      → Appended (rowsIn (fits wk wn kind name) from to) out place r new
+  pub range-gives : {r : ℕ} {new : List ℕ} → Appended (rowsFrom from g k) out written r new
+      → Appended (rowsIn (fits want kind name) from to) out written r new
   range-gives h = appended-as range-rows h
 
 -- a part of a column that has the range is as long as the range
@@ -221,28 +221,28 @@ rows-one f from to l m =
     ∙ ap (λ (xs : List ℕ). xs ++ only (f (from + 0)) (from + 0)) (rows-none from (λ k. f (from + k)))
     ∙ ap (λ (w : ℕ). only (f w) w) (add-zero from)
 
-module _ {kind name out : List ℕ} {from to wk wn place : ℕ} (asks : RangeIn kind name from to wk wn out place) where
+module _ {kind name out : List ℕ} {from to written : ℕ} {want : Want} (asks : RangeIn kind name from to want out written) where
   -- no row
-  pub one-none : to ≤ from → Appended (rowsIn (fits wk wn kind name) from to) out place place out
-  one-none l = appended-as (sym (rows-empty (fits wk wn kind name) from to l)) (appended-none out place)
+  pub one-none : to ≤ from → Appended (rowsIn (fits want kind name) from to) out written written out
+  one-none l = appended-as (sym (rows-empty (fits want kind name) from to l)) (appended-none out written)
 
   module _ (less : from < to) (most : to ≤ from + 1) where
-    the-row : rowsIn (fits wk wn kind name) from to ≡ only (fits wk wn kind name from) from
-    the-row = rows-one (fits wk wn kind name) from to less most
+    the-row : rowsIn (fits want kind name) from to ≡ only (fits want kind name from) from
+    the-row = rows-one (fits want kind name) from to less most
 
     -- a row that does not fit
-    pub one-no : fits wk wn kind name from ≡ false
-        → Appended (rowsIn (fits wk wn kind name) from to) out place place out
-    one-no e = appended-as (sym (the-row ∙ only-none (fits wk wn kind name from) from e)) (appended-none out place)
+    pub one-no : fits want kind name from ≡ false
+        → Appended (rowsIn (fits want kind name) from to) out written written out
+    one-no e = appended-as (sym (the-row ∙ only-none (fits want kind name from) from e)) (appended-none out written)
 
-    fitting : fits wk wn kind name from ≡ true → rowsIn (fits wk wn kind name) from to ≡ from ∷ []
-    fitting e = the-row ∙ only-one (fits wk wn kind name from) from e
+    fitting : fits want kind name from ≡ true → rowsIn (fits want kind name) from to ≡ from ∷ []
+    fitting e = the-row ∙ only-one (fits want kind name from) from e
 
     -- there is a place for a row that fits
-    pub one-place : fits wk wn kind name from ≡ true → place < length out
-    one-place e = omega (arith, asks .room, ap length (fitting e))
+    pub one-room : fits want kind name from ≡ true → written < length out
+    one-room e = omega (arith, asks .room, ap length (fitting e))
 
     -- a row that fits
-    pub one-yes : fits wk wn kind name from ≡ true
-        → Appended (rowsIn (fits wk wn kind name) from to) out place (place + 1) (set out place from)
-    one-yes e = appended-as (sym (fitting e)) (appended-more from (appended-none out place) (one-place e))
+    pub one-yes : fits want kind name from ≡ true
+        → Appended (rowsIn (fits want kind name) from to) out written (written + 1) (set out written from)
+    one-yes e = appended-as (sym (fitting e)) (appended-more from (appended-none out written) (one-room e))

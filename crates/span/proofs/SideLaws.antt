@@ -12,8 +12,9 @@ use Rattle.tree.specs.Table.{at}
 use Rattle.tree.specs.Rules.{Shape}
 use Rattle.tree.proofs.TreeLaws.{Under, less?, ancestor-under}
 use Rattle.tree.proofs.SoundLaws.{shape-steps, shape-descendants, shape-fits}
-use Rattle.span.specs.Reach.{RoleIn}
+use Rattle.span.specs.OneRole.{RoleIn}
 use Rattle.span.specs.Range.{EndsIn, firstAfter, Nests, Ended}
+use Rattle.span.specs.Want.{Want}
 
 -- ── the least row after one of the contexts ──
 module _ (size : List ℕ) (n : ℕ) (cs : List ℕ) where
@@ -54,8 +55,8 @@ module _ (size : List ℕ) (n : ℕ) (cs : List ℕ) where
   after-le (suc k) = omega (arith, after-le k)
 
 -- the contexts' descendants are rows in use
-pub ends-in : {axis : ℕ} {size level kind name : List ℕ} {n wk wn : ℕ} {cs d : List ℕ}
-    → RoleIn axis size level kind name n wk wn cs d → EndsIn size n cs
+pub ends-in : {axis : ℕ} {size level kind name : List ℕ} {n : ℕ} {want : Want} {cs d : List ℕ}
+    → RoleIn axis size level kind name n cs want d → EndsIn size n cs
 ends-in pre = record {
   few = pre .shape .few;
   in-size = pre .shape .in-size;
@@ -97,17 +98,17 @@ nests {size} {level} {n} s = record {
 
 -- ── hopping from subtree to subtree ──
 -- the rows from w on, and before v, have ended before row c
-pub record Hopped (size : List ℕ) (c w v : ℕ) : Type 0 where
+pub record ChildrenAdded (size : List ℕ) (c w v : ℕ) : Type 0 where
   pub from : w ≤ v
   pub to : v ≤ c
   pub ended : (u : ℕ) → w ≤ u → u < v → u + at size u < c
 
-pub hop-start : {size : List ℕ} {c w : ℕ} → w ≤ c → Hopped size c w w
+pub hop-start : {size : List ℕ} {c w : ℕ} → w ≤ c → ChildrenAdded size c w w
 hop-start {size} {c} {w} l = record { from = le-refl w; to = l; ended = λ u a b. absurd (omega arith) }
 
 -- past a subtree that has ended
-pub hop-next : {size : List ℕ} {n c w v : ℕ} → Nests size n → c < n → Hopped size c w v → v + at size v < c
-    → Hopped size c w (v + at size v + 1)
+pub hop-next : {size : List ℕ} {n c w v : ℕ} → Nests size n → c < n → ChildrenAdded size c w v → v + at size v < c
+    → ChildrenAdded size c w (v + at size v + 1)
 hop-next {size} {n} {c} {w} {v} t m s l = record {
   from = omega (arith, s .from);
   to = omega arith;
@@ -121,5 +122,5 @@ hop-next {size} {n} {c} {w} {v} t m s l = record {
 }
 
 -- at a subtree that has not
-pub hop-stop : {size : List ℕ} {c w v : ℕ} → Hopped size c w v → c ≤ v + at size v → Ended size c w v
+pub hop-stop : {size : List ℕ} {c w v : ℕ} → ChildrenAdded size c w v → c ≤ v + at size v → Ended size c w v
 hop-stop s l = record { from = s .from; to = s .to; ended = s .ended; holds = l }

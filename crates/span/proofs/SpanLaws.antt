@@ -19,8 +19,8 @@ use Rattle.tree.specs.Rules.{Shape}
 use Rattle.tree.proofs.TreeLaws.{less?}
 use Rattle.tree.proofs.SoundLaws.{both, both-of, either, either-left, either-right, shape-fits}
 use Rattle.tree.proofs.AxisLaws.{same-test, ancestor-is}
-use Rattle.span.specs.Want.{fits}
-use Rattle.span.specs.Reach.{anyOn, oneRole, RoleIn, Wrote}
+use Rattle.span.specs.Want.{Want, fits}
+use Rattle.span.specs.OneRole.{anyOn, oneRole, RoleIn, Wrote}
 use Rattle.span.specs.Range.{rowsIn, Appended, RangeIn}
 use Rattle.span.proofs.RangeLaws.{contexts-rise, any-hit, any-miss, Covered, cover-start, cover-skip}
 use Rattle.span.proofs.RangeLaws.{cover-range, cover-asks, cover-done}
@@ -98,8 +98,8 @@ pub record Turning (axis : ℕ) (level : List ℕ) (n : ℕ) (test : ℕ → Boo
   pub covered : Covered axis level n test cs d out next pos
   pub passed : (j : ℕ) → j < i → last (at cs j) < pos
 
-module _ {axis : ℕ} {size level kind name : List ℕ} {n wk wn : ℕ} {cs d : List ℕ}
-    (pre : RoleIn axis size level kind name n wk wn cs d)
+module _ {axis : ℕ} {size level kind name : List ℕ} {n : ℕ} {want : Want} {cs d : List ℕ}
+    (pre : RoleIn axis size level kind name n cs want d)
     {first last : ℕ → ℕ} (spans : Spans axis level n first last) where
   -- a row before, or after, the rows of a context
   early : (c w : ℕ) → c < n → w < n → w < first c → onAxis axis level c w ≡ false
@@ -109,13 +109,13 @@ module _ {axis : ℕ} {size level kind name : List ℕ} {n wk wn : ℕ} {cs d : 
   late c w m l h =
       spans .on c w m l ∙ ap (λ (b : Bool). leb (first c) w && b) (lt-leb w (last c) h) ∙ and-false (leb (first c) w)
 
-  pub turn-start : Turning axis level n (fits wk wn kind name) last cs d d 0 0 0
+  pub turn-start : Turning axis level n (fits want kind name) last cs d d 0 0 0
   turn-start = record { index = omega arith; covered = cover-start pre; passed = λ j l. absurd (not-suc-le-zero l) }
 
   module _ {out : List ℕ} {next pos i : ℕ}
-      (s : Turning axis level n (fits wk wn kind name) last cs d out next pos i) where
+      (s : Turning axis level n (fits want kind name) last cs d out next pos i) where
     -- after the last context
-    pub turn-done : length cs ≤ i → Wrote (oneRole axis level n (fits wk wn kind name) cs) d next out
+    pub turn-done : length cs ≤ i → Wrote (oneRole axis level n (fits want kind name) cs) d next out
     turn-done h = cover-done (s .covered) (λ w l m. any-miss axis level cs w
         (λ j k. late (at cs j) w (pre .contexts .inside j k) m (omega (arith, s .passed j (omega arith)))))
 
@@ -138,7 +138,7 @@ module _ {axis : ℕ} {size level kind name : List ℕ} {n wk wn : ℕ} {cs d : 
           (omega (arith, spans .rise (at cs i) (at cs j) (contexts-rise (pre .contexts) i j q k))))
           (less? j i))
 
-      at-first : Covered axis level n (fits wk wn kind name) cs d out next a
+      at-first : Covered axis level n (fits want kind name) cs d out next a
       at-first = cover-skip (s .covered) a (omega arith) (omega (arith, end)) gap
 
       -- the rest are on the context's axis
@@ -146,11 +146,11 @@ module _ {axis : ℕ} {size level kind name : List ℕ} {n wk wn : ℕ} {cs d : 
       mine w l m = any-hit axis level cs w i less (spans .on (at cs i) w here (omega (arith, end))
           ∙ both-of (le-leb (first (at cs i)) w (omega arith)) (le-leb w (last (at cs i)) (omega arith)))
 
-      pub turn-asks : RangeIn kind name a b wk wn out next
+      pub turn-asks : RangeIn kind name a b want out next
       turn-asks = cover-asks pre at-first b (omega arith) end mine
 
-      pub turn-next : {r : ℕ} {new : List ℕ} → Appended (rowsIn (fits wk wn kind name) a b) out next r new
-          → Turning axis level n (fits wk wn kind name) last cs d new r b (i + 1)
+      pub turn-next : {r : ℕ} {new : List ℕ} → Appended (rowsIn (fits want kind name) a b) out next r new
+          → Turning axis level n (fits want kind name) last cs d new r b (i + 1)
       turn-next g = record {
         index = omega arith;
         covered = cover-range at-first b (omega arith) end mine g;

@@ -15,8 +15,9 @@ use lib.ListN.{take, drop}
 use lib.Seq.{getD-take, getD-drop}
 use Rattle.tree.specs.Table.{at}
 use Rattle.tree.specs.Test.{testOk, passes}
+use Rattle.tree.specs.declared.Ask.{Ask}
 use Rattle.tree.proofs.SoundLaws.{both}
-use Rattle.span.specs.Want.{wantedKind, fits}
+use Rattle.span.specs.Want.{Want, wantedKind, wantOf, fits}
 
 -- ── the kind of a test code ──
 -- one of two neighbours
@@ -47,61 +48,61 @@ wanted-document t a = simp (
 )
 
 -- ── the test of a row ──
-module _ (wk wn : ℕ) (kind name : List ℕ) (w : ℕ) where
+module _ (want : Want) (kind name : List ℕ) (w : ℕ) where
   -- the first half of the test
   abbrev pub kindFits : Bool
-  kindFits = eqb wk 5 || eqb (at kind w) wk
+  kindFits = eqb (want .kind) 5 || eqb (at kind w) (want .kind)
 
   -- what is asked of the name
   abbrev nameFits : Bool
-  nameFits = eqb wn 0 || eqb (at name w) wn
+  nameFits = eqb (want .name) 0 || eqb (at name w) (want .name)
 
   -- the kind is wrong
-  pub fits-not : kindFits ≡ false → fits wk wn kind name w ≡ false
+  pub fits-not : kindFits ≡ false → fits want kind name w ≡ false
   unfolding fits
   fits-not k = ap (λ (b : Bool). b && nameFits) k
 
   -- the kind is right: the name decides
-  fits-named : kindFits ≡ true → fits wk wn kind name w ≡ nameFits
+  fits-named : kindFits ≡ true → fits want kind name w ≡ nameFits
   unfolding fits
   fits-named k = ap (λ (b : Bool). b && nameFits) k
 
   -- the kind is right, and any name is
-  pub fits-free : kindFits ≡ true → wn ≡ 0 → fits wk wn kind name w ≡ eqb wn 0
+  pub fits-free : kindFits ≡ true → want .name ≡ 0 → fits want kind name w ≡ eqb (want .name) 0
   fits-free k z =
-      let t : eqb wn 0 ≡ true = eq-eqb wn 0 z in
-      fits-named k ∙ ap (λ (b : Bool). b || eqb (at name w) wn) t ∙ sym t
+      let t : eqb (want .name) 0 ≡ true = eq-eqb (want .name) 0 z in
+      fits-named k ∙ ap (λ (b : Bool). b || eqb (at name w) (want .name)) t ∙ sym t
 
   -- the kind is right, and one name is
-  pub fits-same : kindFits ≡ true → (wn ≡ 0 → ⊥) → fits wk wn kind name w ≡ eqb (at name w) wn
-  fits-same k z = fits-named k ∙ ap (λ (b : Bool). b || eqb (at name w) wn) (ne-eqb wn 0 z)
+  pub fits-same : kindFits ≡ true → (want .name ≡ 0 → ⊥) → fits want kind name w ≡ eqb (at name w) (want .name)
+  fits-same k z = fits-named k ∙ ap (λ (b : Bool). b || eqb (at name w) (want .name)) (ne-eqb (want .name) 0 z)
 
   -- any kind and any name are right
-  pub fits-any : wk ≡ 5 → wn ≡ 0 → true ≡ fits wk wn kind name w
-  fits-any k z = sym (fits-free (ap (λ (b : Bool). b || eqb (at kind w) wk) (eq-eqb wk 5 k)) z ∙ eq-eqb wn 0 z)
+  pub fits-any : want .kind ≡ 5 → want .name ≡ 0 → true ≡ fits want kind name w
+  fits-any k z = sym (fits-free (ap (λ (b : Bool). b || eqb (at kind w) (want .kind)) (eq-eqb (want .kind) 5 k)) z ∙ eq-eqb (want .name) 0 z)
 
   -- any name is right
-  pub fits-kind : (wk ≡ 5 → ⊥) → wn ≡ 0 → eqb (at kind w) wk ≡ fits wk wn kind name w
+  pub fits-kind : (want .kind ≡ 5 → ⊥) → want .name ≡ 0 → eqb (at kind w) (want .kind) ≡ fits want kind name w
   unfolding fits
   fits-kind k z =
-      sym (ap₂ (λ (a b : Bool). (a || eqb (at kind w) wk) && (b || eqb (at name w) wn)) (ne-eqb wk 5 k) (eq-eqb wn 0 z)
-      ∙ and-true (eqb (at kind w) wk))
+      sym (ap₂ (λ (a b : Bool). (a || eqb (at kind w) (want .kind)) && (b || eqb (at name w) (want .name))) (ne-eqb (want .kind) 5 k) (eq-eqb (want .name) 0 z)
+      ∙ and-true (eqb (at kind w) (want .kind)))
 
 -- ── the test at a place of a part of the columns ──
 -- what a part that starts at a row holds
 part-at : (column : List ℕ) (from k i : ℕ) → i < k → at (take k (drop from column)) i ≡ at column (from + i)
 part-at column from k i l = getD-take k (drop from column) i 0 l ∙ getD-drop from column i 0
 
-module _ (wk wn : ℕ) (kind name : List ℕ) (from k i : ℕ) (l : i < k) where
-  pub fits-part : fits wk wn (take k (drop from kind)) (take k (drop from name)) i ≡ fits wk wn kind name (from + i)
+module _ (want : Want) (kind name : List ℕ) (from k i : ℕ) (l : i < k) where
+  pub fits-part : fits want (take k (drop from kind)) (take k (drop from name)) i ≡ fits want kind name (from + i)
   unfolding fits
   fits-part =
-      ap₂ (λ (a b : ℕ). (eqb wk 5 || eqb a wk) && (eqb wn 0 || eqb b wn))
+      ap₂ (λ (a b : ℕ). (eqb (want .kind) 5 || eqb a (want .kind)) && (eqb (want .name) 0 || eqb b (want .name)))
       (part-at kind from k i l) (part-at name from k i l)
 
-  pub fits-part-kind : (wk ≡ 5 → ⊥) → wn ≡ 0
-      → eqb (at (take k (drop from kind)) i) wk ≡ fits wk wn kind name (from + i)
-  fits-part-kind h z = ap (λ (a : ℕ). eqb a wk) (part-at kind from k i l) ∙ fits-kind wk wn kind name (from + i) h z
+  pub fits-part-kind : (want .kind ≡ 5 → ⊥) → want .name ≡ 0
+      → eqb (at (take k (drop from kind)) i) (want .kind) ≡ fits want kind name (from + i)
+  fits-part-kind h z = ap (λ (a : ℕ). eqb a (want .kind)) (part-at kind from k i l) ∙ fits-kind want kind name (from + i) h z
 
 -- ── 01's test ──
 -- without a name to ask for, the first half decides
@@ -118,18 +119,23 @@ unfolding testOk
 code-low test m e =
     leb-true test 7 (both (leb test 7) (cond (eqb test 2 || eqb test 6) (not (eqb m 0)) (eqb m 0)) e .0)
 
--- a row fits what a test asks for exactly if it passes the test
-pub fits-passes : (test m : ℕ) (kind name : List ℕ) (w : ℕ) → testOk test m ≡ true
-    → fits (wantedKind test) m kind name w ≡ passes test m (at kind w) (at name w)
+-- code by code
+fits-code : (test m : ℕ) (kind name : List ℕ) (w : ℕ) → testOk test m ≡ true
+    → fits (record { kind = wantedKind test; name = m }) kind name w ≡ passes test m (at kind w) (at name w)
 unfolding testOk wantedKind fits passes
-fits-passes zero m kind name w e = unnamed m true _ e
-fits-passes (suc zero) m kind name w e = unnamed m _ _ e
-fits-passes (suc (suc zero)) m kind name w e = named m (eqb (at kind w) 1) (eqb (at name w) m) e
-fits-passes (suc (suc (suc zero))) m kind name w e = unnamed m _ _ e
-fits-passes (suc (suc (suc (suc zero)))) m kind name w e = unnamed m _ _ e
-fits-passes (suc (suc (suc (suc (suc zero))))) m kind name w e = unnamed m _ _ e
-fits-passes (suc (suc (suc (suc (suc (suc zero)))))) m kind name w e =
+fits-code zero m kind name w e = unnamed m true _ e
+fits-code (suc zero) m kind name w e = unnamed m _ _ e
+fits-code (suc (suc zero)) m kind name w e = named m (eqb (at kind w) 1) (eqb (at name w) m) e
+fits-code (suc (suc (suc zero))) m kind name w e = unnamed m _ _ e
+fits-code (suc (suc (suc (suc zero)))) m kind name w e = unnamed m _ _ e
+fits-code (suc (suc (suc (suc (suc zero))))) m kind name w e = unnamed m _ _ e
+fits-code (suc (suc (suc (suc (suc (suc zero)))))) m kind name w e =
     named m (eqb (at kind w) 4) (eqb (at name w) m) e
-fits-passes (suc (suc (suc (suc (suc (suc (suc zero))))))) m kind name w e = unnamed m _ _ e
-fits-passes (suc (suc (suc (suc (suc (suc (suc (suc t)))))))) m kind name w e =
+fits-code (suc (suc (suc (suc (suc (suc (suc zero))))))) m kind name w e = unnamed m _ _ e
+fits-code (suc (suc (suc (suc (suc (suc (suc (suc t)))))))) m kind name w e =
     absurd (omega (arith, code-low (suc (suc (suc (suc (suc (suc (suc (suc t)))))))) m e))
+
+-- a row fits what a test asks for exactly if it passes the test
+pub fits-passes : (ask : Ask) (kind name : List ℕ) (w : ℕ) → testOk (ask .test) (ask .name) ≡ true
+    → fits (wantOf ask) kind name w ≡ passes (ask .test) (ask .name) (at kind w) (at name w)
+fits-passes ask = fits-code (ask .test) (ask .name)

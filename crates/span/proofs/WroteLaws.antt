@@ -10,7 +10,7 @@ use lib.Seq.{drop-cons, set-at, append-snoc, take-at, drop-at, drop-drop}
 use borrow.Rule.Slice.PartMut.{midOf, putMid}
 use Rattle.tree.specs.Outcome.{overwritten}
 use Rattle.tree.proofs.ColumnLaws.{tail-mid, tail-put}
-use Rattle.span.specs.Reach.{Wrote}
+use Rattle.span.specs.OneRole.{Wrote}
 
 -- by nothing
 overwritten-none : (old : List ℕ) → old ≡ overwritten [] old

@@ -1,3 +1,3 @@
 pub mod Want
-pub mod Reach
+pub mod OneRole
 pub mod Range

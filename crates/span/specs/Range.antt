@@ -6,11 +6,11 @@ use mathlib.Core.Bool.{Bool}
 use mathlib.Core.List.{List, [], _++_}
 use lib.ListN.{length, take, drop}
 use Rattle.tree.specs.Search.{only}
-use Rattle.tree.specs.Table.{at}
+use Rattle.tree.specs.Table.{mostRows, at}
 use Rattle.tree.specs.Outcome.{overwritten}
-use Rattle.span.specs.Want.{fits}
+use Rattle.span.specs.Want.{Want, fits}
 
--- of the k rows from a row on, those whose place among them passes, ascending
+-- of the k rows from a row on, those that pass by their number among them, ascending
 unfoldable pub rowsFrom : ℕ → (ℕ → Bool) → ℕ → List ℕ
 rowsFrom from f zero = []
 rowsFrom from f (suc k) = rowsFrom from f k ++ only (f k) (from + k)
@@ -19,26 +19,26 @@ rowsFrom from f (suc k) = rowsFrom from f k ++ only (f k) (from + k)
 abbrev pub rowsIn : (ℕ → Bool) → ℕ → ℕ → List ℕ
 rowsIn f from to = rowsFrom from (λ k. f (from + k)) (to - from)
 
--- a column that held old holds xs from a place on now, and r is the place after them
-pub record Appended (xs old : List ℕ) (place r : ℕ) (new : List ℕ) : Type 0 where
-  pub many : r ≡ place + length xs
-  pub holds : new ≡ take place old ++ overwritten xs (drop place old)
+-- a column with so many results written holds xs behind them now, and r results are written then
+pub record Appended (xs old : List ℕ) (written r : ℕ) (new : List ℕ) : Type 0 where
+  pub many : r ≡ written + length xs
+  pub holds : new ≡ take written old ++ overwritten xs (drop written old)
 
 -- a scan of a part of the columns, k rows from a row on, has room for those that pass
-pub record ScanIn (from : ℕ) (f : ℕ → Bool) (k : ℕ) (out : List ℕ) (place : ℕ) : Type 0 where
+pub record ScanIn (from : ℕ) (f : ℕ → Bool) (k : ℕ) (out : List ℕ) (written : ℕ) : Type 0 where
   pub numbers : from + k < 2 ^ 64
-  pub room : place + length (rowsFrom from f k) ≤ length out
+  pub room : written + length (rowsFrom from f k) ≤ length out
 
 -- the rows of a range are in the columns, and there is room for those that fit
-pub record RangeIn (kind name : List ℕ) (from to wantKind wantName : ℕ) (out : List ℕ) (place : ℕ) : Type 0 where
+pub record RangeIn (kind name : List ℕ) (from to : ℕ) (want : Want) (out : List ℕ) (written : ℕ) : Type 0 where
   pub order : from ≤ to
   pub in-kind : to ≤ length kind
   pub in-name : to ≤ length name
-  pub room : place + length (rowsIn (fits wantKind wantName kind name) from to) ≤ length out
+  pub room : written + length (rowsIn (fits want kind name) from to) ≤ length out
 
 -- the descendants of each context are rows in use
 pub record EndsIn (size : List ℕ) (n : ℕ) (cs : List ℕ) : Type 0 where
-  pub few : n ≤ 4096
+  pub few : n ≤ mostRows
   pub in-size : n ≤ length size
   pub inside : (i : ℕ) → i < length cs → at cs i + at size (at cs i) < n
 
@@ -49,7 +49,7 @@ firstAfter size n cs (suc k) = min (firstAfter size n cs k) (at cs k + at size (
 
 -- subtrees are rows in use, and lie in each other or apart
 pub record Nests (size : List ℕ) (n : ℕ) : Type 0 where
-  pub few : n ≤ 4096
+  pub few : n ≤ mostRows
   pub in-size : n ≤ length size
   pub inside : (w : ℕ) → w < n → w + at size w < n
   pub within : (v w : ℕ) → v < n → v < w → w ≤ v + at size v → w + at size w ≤ v + at size v
@@ -61,12 +61,12 @@ pub record Ended (size : List ℕ) (c w r : ℕ) : Type 0 where
   pub ended : (v : ℕ) → w ≤ v → v < r → v + at size v < c
   pub holds : c ≤ r + at size r
 
--- a place among contexts that do not fall
-pub record PlaceIn (cs : List ℕ) (i : ℕ) : Type 0 where
+-- the number of one of the contexts, which do not fall
+pub record ContextIn (cs : List ℕ) (i : ℕ) : Type 0 where
   pub inside : i < length cs
   pub rising : (j k : ℕ) → j < k → k < length cs → at cs j ≤ at cs k
 
--- of the contexts from place i on, r is the first that is not before row end, or their number
+-- of the contexts from number i on, r is the first that is not before row end, or their number
 pub record PastTree (cs : List ℕ) (i end r : ℕ) : Type 0 where
   pub from : i ≤ r
   pub to : r ≤ length cs

@@ -5,6 +5,8 @@ use mathlib.Core.Bool.{Bool, cond, _&&_, _||_}
 use mathlib.Core.List.{List}
 use lib.Dec.{eqb}
 use Rattle.tree.specs.Table.{at}
+use Rattle.tree.specs.declared.Ask.{Ask}
+pub use Rattle.span.specs.declared.want.Want.{Want}
 
 -- the kind that a test code asks for; 5 for any
 unfoldable pub wantedKind : ℕ → ℕ
@@ -16,7 +18,11 @@ wantedKind test =
     (cond (eqb test 5 || eqb test 6) 4
     0))))
 
+-- what the test of a step wants
+abbrev pub wantOf : Ask → Want
+wantOf ask = record { kind = wantedKind (ask .test); name = ask .name }
+
 -- row w has the wanted kind, 5 for any, and the wanted name, 0 for any
-unfoldable pub fits : ℕ → ℕ → List ℕ → List ℕ → ℕ → Bool
-fits wantKind wantName kind name w =
-    (eqb wantKind 5 || eqb (at kind w) wantKind) && (eqb wantName 0 || eqb (at name w) wantName)
+unfoldable pub fits : Want → List ℕ → List ℕ → ℕ → Bool
+fits want kind name w =
+    (eqb (want .kind) 5 || eqb (at kind w) (want .kind)) && (eqb (want .name) 0 || eqb (at name w) (want .name))

@@ -3,30 +3,30 @@ ghost use mathlib.Core.Path.{_≡_};
 ghost use Prim.Native.Nat.{_-_, _<_, _≤_};
 ghost use lib.ListN.{length};
 ghost use Rattle.span.specs.Want.{fits};
-ghost use Rattle.span.specs.Reach.{oneRole, RoleIn, Roots, Wrote};
-ghost use Rattle.span.specs.Range.{EndsIn, firstAfter, PlaceIn, PastTree, Nests, Ended};
+ghost use Rattle.span.specs.OneRole.{oneRole, RoleIn, Roots, Wrote};
+ghost use Rattle.span.specs.Range.{EndsIn, firstAfter, ContextIn, PastTree, Nests, Ended};
 use super::scan::emit;
 use super::scan::emit_one;
+use super::want::Want;
 use tree::logic::greater;
 use tree::logic::smaller;
 
 // Axis 1: writes the contexts of one role that fit, each once, to the front of `out`; answers how many.
 pub fn own_rows(
-    level: &[usize],
     size: &[usize],
+    level: &[usize],
     kind: &[usize],
     name: &[usize],
     count: usize,
     rows: &[usize],
-    want_kind: usize,
-    want_name: usize,
+    want: Want,
     out: &mut [usize],
 ) -> usize
     requires { ⌜ RoleIn 1 (now size) (now level) (now kind) (now name) count
-        «want_kind» «want_name» (now rows) (now out) ⌝ }
+        (now rows) want (now out) ⌝ }
     ensures { λ r. ⌜ Wrote
         (oneRole 1 (now (level .entry)) count
-        (fits «want_kind» «want_name» (now (kind .entry)) (now (name .entry))) (now (rows .entry)))
+        (fits want (now (kind .entry)) (now (name .entry))) (now (rows .entry)))
         (now (out .entry)) r (now (out .exit)) ⌝ }
 {
     let mut next = 0;
@@ -36,7 +36,7 @@ pub fn own_rows(
         let c = rows[i];
         let from = greater(pos, c);
         let to = greater(from, c + 1);
-        next = emit_one(kind, name, from, to, want_kind, want_name, out, next);
+        next = emit_one(kind, name, from, to, want, out, next);
         pos = to;
         i += 1;
     }
@@ -46,22 +46,21 @@ pub fn own_rows(
 // Axis 3, where `first` is 1: writes the descendants of the contexts of one role that fit, each once, to the front of
 // `out`; answers how many. Axis 4, where `first` is 0: the same with the contexts themselves.
 pub fn rows_below(
-    first: usize,
-    level: &[usize],
     size: &[usize],
+    level: &[usize],
     kind: &[usize],
     name: &[usize],
     count: usize,
     rows: &[usize],
-    want_kind: usize,
-    want_name: usize,
+    first: usize,
+    want: Want,
     out: &mut [usize],
 ) -> usize
     requires { ⌜ (first ≤ 1) × RoleIn (4 - first) (now size) (now level) (now kind) (now name) count
-        «want_kind» «want_name» (now rows) (now out) ⌝ }
+        (now rows) want (now out) ⌝ }
     ensures { λ r. ⌜ Wrote
         (oneRole (4 - first) (now (level .entry)) count
-        (fits «want_kind» «want_name» (now (kind .entry)) (now (name .entry))) (now (rows .entry)))
+        (fits want (now (kind .entry)) (now (name .entry))) (now (rows .entry)))
         (now (out .entry)) r (now (out .exit)) ⌝ }
 {
     let mut next = 0;
@@ -71,7 +70,7 @@ pub fn rows_below(
         let c = rows[i];
         let from = greater(pos, c + first);
         let to = greater(from, c + size[c] + 1);
-        next = emit(kind, name, from, to, want_kind, want_name, out, next);
+        next = emit(kind, name, from, to, want, out, next);
         pos = to;
         i += 1;
     }
@@ -93,10 +92,10 @@ fn first_after(size: &[usize], count: usize, rows: &[usize]) -> usize
     first
 }
 
-// The first of the contexts from place i on that is not before row end, or their number. Where end is that of a tree,
+// The first of the contexts from number i on that is not before row end, or their number. Where end is that of a tree,
 // most often no later tree has a context of the role, so the last one is asked first.
 pub fn past_tree(rows: &[usize], i: usize, end: usize) -> usize
-    requires { ⌜ PlaceIn (now rows) i ⌝ }
+    requires { ⌜ ContextIn (now rows) i ⌝ }
     ensures { λ r. ⌜ PastTree (now (rows .entry)) i end r ⌝ }
 {
     let last = rows.len() - 1;
@@ -116,23 +115,22 @@ pub fn past_tree(rows: &[usize], i: usize, end: usize) -> usize
 // Axis 8: writes the rows that come after a context of one role and its descendants, in the context's tree, and fit to
 // the front of `out`; answers how many. Tree by tree they are one range.
 pub fn rows_after(
-    level: &[usize],
     size: &[usize],
+    level: &[usize],
     kind: &[usize],
     name: &[usize],
-    top: &[usize],
     count: usize,
+    top: &[usize],
     rows: &[usize],
-    want_kind: usize,
-    want_name: usize,
+    want: Want,
     out: &mut [usize],
 ) -> usize
     requires { ⌜ RoleIn 8 (now size) (now level) (now kind) (now name) count
-        «want_kind» «want_name» (now rows) (now out) ⌝ }
+        (now rows) want (now out) ⌝ }
     requires { ⌜ Roots (now level) count (now top) ⌝ }
     ensures { λ r. ⌜ Wrote
         (oneRole 8 (now (level .entry)) count
-        (fits «want_kind» «want_name» (now (kind .entry)) (now (name .entry))) (now (rows .entry)))
+        (fits want (now (kind .entry)) (now (name .entry))) (now (rows .entry)))
         (now (out .entry)) r (now (out .exit)) ⌝ }
 {
     let mut next = 0;
@@ -143,7 +141,7 @@ pub fn rows_after(
         let end = r + size[r] + 1;
         let j = past_tree(rows, i, end);
         let from = first_after(size, end, &rows[i..j]);
-        next = emit(kind, name, from, end, want_kind, want_name, out, next);
+        next = emit(kind, name, from, end, want, out, next);
         i = j;
     }
     next
@@ -169,23 +167,22 @@ fn next_open(size: &[usize], count: usize, w: usize, c: usize) -> usize
 // Axis 9: writes the rows that come before a context of one role in its tree, are not its ancestors and fit to the
 // front of `out`; answers how many. In a tree, between two ancestors of the last context there they are one range.
 pub fn rows_before(
-    level: &[usize],
     size: &[usize],
+    level: &[usize],
     kind: &[usize],
     name: &[usize],
-    top: &[usize],
     count: usize,
+    top: &[usize],
     rows: &[usize],
-    want_kind: usize,
-    want_name: usize,
+    want: Want,
     out: &mut [usize],
 ) -> usize
     requires { ⌜ RoleIn 9 (now size) (now level) (now kind) (now name) count
-        «want_kind» «want_name» (now rows) (now out) ⌝ }
+        (now rows) want (now out) ⌝ }
     requires { ⌜ Roots (now level) count (now top) ⌝ }
     ensures { λ r. ⌜ Wrote
         (oneRole 9 (now (level .entry)) count
-        (fits «want_kind» «want_name» (now (kind .entry)) (now (name .entry))) (now (rows .entry)))
+        (fits want (now (kind .entry)) (now (name .entry))) (now (rows .entry)))
         (now (out .entry)) r (now (out .exit)) ⌝ }
 {
     let mut next = 0;
@@ -198,7 +195,7 @@ pub fn rows_before(
         let mut w = r;
         while w < c {
             let open = next_open(size, count, w, c);
-            next = emit(kind, name, w, open, want_kind, want_name, out, next);
+            next = emit(kind, name, w, open, want, out, next);
             w = open + 1;
         }
         i = j;

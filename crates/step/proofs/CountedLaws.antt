@@ -13,19 +13,20 @@ use Rattle.tree.specs.Table.{Table, at}
 use Rattle.tree.specs.Axis.{axisOk}
 use Rattle.tree.specs.Test.{testOk}
 use Rattle.tree.specs.Pairs.{pairsOf, withRole, distinct}
-use Rattle.tree.specs.Step.{Ask, stepList, linesOf}
+use Rattle.tree.specs.declared.Ask.{Ask}
+use Rattle.tree.specs.Step.{stepList, linesOf}
 use Rattle.tree.specs.StepRules.{PairsFit}
 use Rattle.tree.specs.Refusal.{askCheck}
 use Rattle.tree.specs.declared.Checked.the-variants.{Passed}
 use Rattle.tree.proofs.SearchLaws.{gather-zero, gather-length}
 use Rattle.tree.proofs.SoundLaws.{sound-shape, next-passed, given-passed}
 use Rattle.tree.proofs.RoleLaws.{pair-passes}
-use Rattle.span.specs.Want.{wantedKind}
-use Rattle.span.specs.Reach.{oneRole}
+use Rattle.span.specs.Want.{wantOf}
+use Rattle.span.specs.OneRole.{oneRole}
 use Rattle.marks.specs.RowSet.{Blank}
 use Rattle.axis.specs.Role.{RoleAsk, RoleDone}
-use Rattle.step.specs.Runs.{pairsFrom, part, RunEnd}
-use Rattle.step.specs.Steps.{Steps}
+use Rattle.step.specs.Runs.{pairsFrom, runRows, RunEnd}
+use Rattle.step.specs.StepReady.{StepReady}
 use Rattle.span.proofs.WroteLaws.{wrote-length}
 use Rattle.step.proofs.RunLaws.{roleRows, step-run, run-contexts}
 
@@ -64,15 +65,15 @@ pub record Counted (t : Table) (a : Ask) (role row words scratch : List ℕ) (to
   pub small : total ≤ i * 4096
   sum : total + length (stepList t a (pairsFrom role row i)) ≡ length (stepList t a (pairsOf role row))
 
-module _ (t : Table) (a : Ask) (up role row : List ℕ) (s : Steps t a up role row) where
+module _ (t : Table) (a : Ask) (up role row : List ℕ) (s : StepReady t a up role row) where
   pub pairs-fit : PairsFit role row (t .count)
-  pairs-fit = pair-passes role row (t .count) .0 (s .pairs)
+  pairs-fit = pair-passes role row (t .count) .0 (s .call .pairs)
 
   -- the lines of the run at i, and those after it
   pub step-at : (i j : ℕ) → RunEnd role i j
       → stepList t a (pairsFrom role row i)
-      ≡ withRole (at role i) (roleRows t a (part row i j)) ++ stepList t a (pairsFrom role row j)
-  step-at i j e = step-run role row (t .count) i j pairs-fit e t a (asked-parts a (s .asked) .1)
+      ≡ withRole (at role i) (roleRows t a (runRows row i j)) ++ stepList t a (pairsFrom role row j)
+  step-at i j e = step-run role row (t .count) i j pairs-fit e t a (asked-parts a (s .call .asked) .1)
 
   -- past the last pair no line is left
   pub step-end : (i : ℕ) → length role ≤ i → stepList t a (pairsFrom role row i) ≡ []
@@ -80,16 +81,16 @@ module _ (t : Table) (a : Ask) (up role row : List ℕ) (s : Steps t a up role r
   step-end i l = ap (λ (rs : List ℕ). stepList t a (pairsOf rs (drop i row))) (drop-of-length-le role l) ∙ step-none t a
 
   pub run-asks : (i j : ℕ) (words out : List ℕ) → RunEnd role i j → Blank words
-      → length (roleRows t a (part row i j)) ≤ length out
-      → RoleAsk (a .axis) (t .size) (t .level) (t .kind) (t .name) up (t .count) (wantedKind (a .test)) (a .name)
-      (part row i j) words out
+      → length (roleRows t a (runRows row i j)) ≤ length out
+      → RoleAsk (a .axis) (t .size) (t .level) (t .kind) (t .name) (t .count) up
+      (runRows row i j) (wantOf a) words out
   run-asks i j words out e b room = record {
-    known = asked-parts a (s .asked) .0;
+    known = asked-parts a (s .call .asked) .0;
     asks = record {
-      shape = sound-shape t (s .sound);
+      shape = sound-shape t (s .call .sound);
       contexts = run-contexts role row (t .count) i j pairs-fit e;
-      in-kind = s .sound .in-use .in-kind;
-      in-name = s .sound .in-use .in-name;
+      in-kind = s .call .sound .in-use .in-kind;
+      in-name = s .call .sound .in-use .in-name;
       room = room;
     };
     links = s .links;
@@ -107,29 +108,29 @@ module _ (t : Table) (a : Ask) (up role row : List ℕ) (s : Steps t a up role r
   }
 
   -- one role reaches at most all rows
-  pub row-most : (i j : ℕ) → length (roleRows t a (part row i j)) ≤ 4096
+  pub row-most : (i j : ℕ) → length (roleRows t a (runRows row i j)) ≤ 4096
   unfolding oneRole
-  row-most i j = le-trans (gather-most _ (t .count)) (s .sound .in-use .few)
+  row-most i j = le-trans (gather-most _ (t .count)) (s .call .sound .in-use .few)
 
   pub counted-asks : {words scratch : List ℕ} {total i : ℕ} (j : ℕ) → Counted t a role row words scratch total i
       → RunEnd role i j
-      → RoleAsk (a .axis) (t .size) (t .level) (t .kind) (t .name) up (t .count) (wantedKind (a .test)) (a .name)
-      (part row i j) words scratch
+      → RoleAsk (a .axis) (t .size) (t .level) (t .kind) (t .name) (t .count) up
+      (runRows row i j) (wantOf a) words scratch
   counted-asks {words} {scratch} {i = i} j c e =
       run-asks i j words scratch e (c .blank) (let w = c .wide in omega (arith, row-most i j))
 
   module _ {words scratch words′ scratch′ : List ℕ} {total i r j : ℕ} (c : Counted t a role row words scratch total i)
       (e : RunEnd role i j)
-      (d : RoleDone (a .axis) (t .level) (t .kind) (t .name) (t .count) (wantedKind (a .test)) (a .name) (part row i j)
-      words′ scratch r scratch′) where
+      (d : RoleDone (a .axis) (t .level) (t .kind) (t .name) (t .count)
+      (runRows row i j) (wantOf a) words′ scratch r scratch′) where
     pub counted-small : r ≤ 4096
     counted-small = omega (arith, d .wrote .many, row-most i j)
 
     pub counted-more : Counted t a role row words′ scratch′ (total + r) j
     counted-more =
-        let many : r ≡ length (roleRows t a (part row i j)) = d .wrote .many in
-        let lines = ap length (step-at i j e) ∙ length-append (withRole (at role i) (roleRows t a (part row i j))) _ in
-        let one = length-role (at role i) (roleRows t a (part row i j)) in
+        let many : r ≡ length (roleRows t a (runRows row i j)) = d .wrote .many in
+        let lines = ap length (step-at i j e) ∙ length-append (withRole (at role i) (roleRows t a (runRows row i j))) _ in
+        let one = length-role (at role i) (roleRows t a (runRows row i j)) in
         let k = e .after in
         record {
           within = e .within;

@@ -12,7 +12,7 @@ use Rattle.tree.specs.Kept.{remaining, keptCount}
 use Rattle.tree.specs.StepRules.{PairsFit}
 use Rattle.tree.proofs.KeptLaws.{kept-split}
 use Rattle.kept.specs.KeptOf.{keptOf, KeptIn}
-use Rattle.step.specs.Runs.{pairsFrom, part, RunEnd}
+use Rattle.step.specs.Runs.{pairsFrom, runRows, RunEnd}
 use Rattle.step.proofs.RunLaws.{pairs-from-run, rest-above, run-contexts}
 use Rattle.kept.proofs.KeptOfLaws.{kept-role, kept-most}
 
@@ -27,10 +27,10 @@ module _ (axis : ℕ) (size level : List ℕ) (n : ℕ) (role row : List ℕ) (s
   pub keeping-none : Keeping axis level role row 0 0
   keeping-none = record { within = omega arith; small = omega arith; sum = omega arith }
 
-  part-length : (i j : ℕ) → RunEnd role i j → length (part row i j) ≡ j - i
+  part-length : (i j : ℕ) → RunEnd role i j → length (runRows row i j) ≡ j - i
   part-length i j e = simp (length-take, length-drop) (omega (arith, e .within, p .even))
 
-  pub keeping-asks : (i j : ℕ) → RunEnd role i j → KeptIn size level n (part row i j)
+  pub keeping-asks : (i j : ℕ) → RunEnd role i j → KeptIn size level n (runRows row i j)
   keeping-asks i j e = record {
     shape = s;
     contexts = run-contexts role row n i j p e;
@@ -39,20 +39,20 @@ module _ (axis : ℕ) (size level : List ℕ) (n : ℕ) (role row : List ℕ) (s
 
   kept-run : (i j : ℕ) → RunEnd role i j
       → keptCount axis level (pairsFrom role row i)
-      ≡ keptOf axis level (part row i j) + keptCount axis level (pairsFrom role row j)
+      ≡ keptOf axis level (runRows row i j) + keptCount axis level (pairsFrom role row j)
   kept-run i j e =
       ap (keptCount axis level) (pairs-from-run role row n i j p e)
-      ∙ kept-split axis level (withRole (at role i) (part row i j)) (pairsFrom role row j)
+      ∙ kept-split axis level (withRole (at role i) (runRows row i j)) (pairsFrom role row j)
       (rest-above role row n i j p e)
       ∙ ap (λ (k : ℕ). k + keptCount axis level (pairsFrom role row j))
-      (kept-role axis level (at role i) (part row i j))
+      (kept-role axis level (at role i) (runRows row i j))
 
   -- a run keeps at most its pairs
-  pub run-most : (i j : ℕ) → RunEnd role i j → keptOf axis level (part row i j) ≤ j - i
-  run-most i j e = omega (arith, kept-most axis level (part row i j), part-length i j e)
+  pub run-most : (i j : ℕ) → RunEnd role i j → keptOf axis level (runRows row i j) ≤ j - i
+  run-most i j e = omega (arith, kept-most axis level (runRows row i j), part-length i j e)
 
   pub keeping-more : {kept i r j : ℕ} → Keeping axis level role row kept i → RunEnd role i j
-      → r ≡ keptOf axis level (part row i j) → Keeping axis level role row (kept + r) j
+      → r ≡ keptOf axis level (runRows row i j) → Keeping axis level role row (kept + r) j
   keeping-more {kept} {i} {r} {j} k e q = record {
     within = e .within;
     small = omega (arith, k .small, run-most i j e, e .after);

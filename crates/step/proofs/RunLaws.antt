@@ -17,16 +17,17 @@ use Rattle.tree.specs.Table.{Table, at}
 use Rattle.tree.specs.Axis.{onAxis}
 use Rattle.tree.specs.Test.{testOk, passes}
 use Rattle.tree.specs.Pairs.{Pair, pair, pairsOf, withRole, some, distinct, before, outOfOrder}
-use Rattle.tree.specs.Step.{Ask, listed, reached, linesOf, stepList}
+use Rattle.tree.specs.declared.Ask.{Ask}
+use Rattle.tree.specs.Step.{listed, reached, linesOf, stepList}
 use Rattle.tree.specs.StepRules.{PairsFit}
 use Rattle.tree.proofs.SearchLaws.{gather-ext}
 use Rattle.tree.proofs.SoundLaws.{both-of, either-right}
 use Rattle.tree.proofs.StepLaws.{In, Ordered}
 use Rattle.tree.proofs.SplitLaws.{RolesBelow, step-split}
 use Rattle.tree.proofs.RoleLaws.{Level, all-above, level-ordered, in-order}
-use Rattle.span.specs.Want.{wantedKind, fits}
-use Rattle.span.specs.Reach.{anyOn, oneRole, Contexts}
-use Rattle.step.specs.Runs.{pairsFrom, part, RunEnd}
+use Rattle.span.specs.Want.{wantOf, fits}
+use Rattle.span.specs.OneRole.{anyOn, oneRole, Contexts}
+use Rattle.step.specs.Runs.{pairsFrom, runRows, RunEnd}
 use Rattle.span.proofs.WantLaws.{fits-passes}
 
 -- ── one role's lines ──
@@ -57,7 +58,7 @@ and-comm false false = refl
 -- the rows that one role reaches, by a wanted kind and name
 abbrev pub roleRows : Table → Ask → List ℕ → List ℕ
 roleRows t a cs =
-    oneRole (a .axis) (t .level) (t .count) (fits (wantedKind (a .test)) (a .name) (t .kind) (t .name)) cs
+    oneRole (a .axis) (t .level) (t .count) (fits (wantOf a) (t .kind) (t .name)) cs
 
 pub run-lines : (t : Table) (a : Ask) (r c : ℕ) (cs : List ℕ) → testOk (a .test) (a .name) ≡ true
     → stepList t a (withRole r (c ∷ cs)) ≡ withRole r (roleRows t a (c ∷ cs))
@@ -67,7 +68,7 @@ run-lines t a r c cs ok =
     ∙ ap (withRole r) (gather-ext _ _ (t .count) (λ w l.
     and-comm (passes (a .test) (a .name) (at (t .kind) w) (at (t .name) w)) _
     ∙ ap₂ (λ (x y : Bool). x && y) (some-any (a .axis) (t .level) r w (c ∷ cs))
-    (sym (fits-passes (a .test) (a .name) (t .kind) (t .name) w ok))))
+    (sym (fits-passes a (t .kind) (t .name) w ok))))
 
 -- ── the run that begins at a place ──
 level-drop : (k : ℕ) (rs : List ℕ) → Level rs → Level (drop k rs)
@@ -132,14 +133,14 @@ module _ (role row : List ℕ) (n i j : ℕ) (p : PairsFit role row n) (e : RunE
   pub roles-level : Level role
   roles-level k l = in-order role row k (p .order (suc k) l)
 
-  pub pairs-from-run : pairsFrom role row i ≡ withRole (at role i) (part row i j) ++ pairsFrom role row j
+  pub pairs-from-run : pairsFrom role row i ≡ withRole (at role i) (runRows row i j) ++ pairsFrom role row j
   pairs-from-run =
       let here : i + (j - i) ≡ j = omega (arith, e .after) in
       pairs-run (at role i) (j - i) (drop i role) (drop i row)
       (rw (length-drop i role) (omega (arith, e .within)))
       (length-drop i role ∙ ap (λ (k : ℕ). k - i) (p .even) ∙ sym (length-drop i row))
       (λ x l. getD-drop i role x 0 ∙ e .same (i + x) (omega arith) (omega arith))
-      ∙ ap₂ (λ (rs ws : List ℕ). withRole (at role i) (part row i j) ++ pairsOf rs ws)
+      ∙ ap₂ (λ (rs ws : List ℕ). withRole (at role i) (runRows row i j) ++ pairsOf rs ws)
       (drop-drop (j - i) i role ∙ ap (λ (k : ℕ). drop k role) here)
       (drop-drop (j - i) i row ∙ ap (λ (k : ℕ). drop k row) here)
 
@@ -156,7 +157,7 @@ module _ (role row : List ℕ) (n i j : ℕ) (p : PairsFit role row n) (e : RunE
       ⊎-elim (λ z. absurd (e .next l (sym z))) (λ z. z)
       (eq-or-lt-of-le (let z : at role i ≤ at role j = omega arith in z))
 
-  pub rest-above : RolesBelow (withRole (at role i) (part row i j)) (pairsFrom role row j)
+  pub rest-above : RolesBelow (withRole (at role i) (runRows row i j)) (pairsFrom role row j)
   rest-above a b u v = elim (decLt j (length role)) [
     | yes l ↦
         let w : In b (pairsOf (at role j ∷ drop (suc j) role) (at row j ∷ drop (suc j) row)) =
@@ -166,12 +167,12 @@ module _ (role row : List ℕ) (n i j : ℕ) (p : PairsFit role row n) (e : RunE
         subst Level (drop-cons role j 0 l) (level-drop j role roles-level) in
         let m : at role j ≤ b .role =
         from-front (at role j) (at row j) (drop (suc j) role) (drop (suc j) row) lev b w in
-        omega (arith, next-above l, role-in (at role i) (part row i j) a u)
+        omega (arith, next-above l, role-in (at role i) (runRows row i j) a u)
     | no l ↦ absurd (none (drop j role) (drop j row)
         (drop-of-length-le role (let z : length role ≤ j = omega arith in z)) b v)
   ]
 
-  part-cons : part row i j ≡ at row i ∷ take (j - suc i) (drop (suc i) row)
+  part-cons : runRows row i j ≡ at row i ∷ take (j - suc i) (drop (suc i) row)
   part-cons =
       let k : j - i ≡ suc (j - suc i) = omega (arith, e .after) in
       let l : i < length row = omega (arith, e .after, e .within, p .even) in
@@ -180,12 +181,12 @@ module _ (role row : List ℕ) (n i j : ℕ) (p : PairsFit role row n) (e : RunE
   -- the run's lines, then the others
   pub step-run : (t : Table) (a : Ask) → testOk (a .test) (a .name) ≡ true
       → stepList t a (pairsFrom role row i)
-      ≡ withRole (at role i) (roleRows t a (part row i j)) ++ stepList t a (pairsFrom role row j)
+      ≡ withRole (at role i) (roleRows t a (runRows row i j)) ++ stepList t a (pairsFrom role row j)
   step-run t a ok =
       let cs : List ℕ = take (j - suc i) (drop (suc i) row) in
       ap (stepList t a) pairs-from-run
-      ∙ step-split t a (withRole (at role i) (part row i j)) (pairsFrom role row j)
-      (role-ordered (at role i) (part row i j)) rest-ordered rest-above
+      ∙ step-split t a (withRole (at role i) (runRows row i j)) (pairsFrom role row j)
+      (role-ordered (at role i) (runRows row i j)) rest-ordered rest-above
       ∙ ap (λ (l : List Pair). l ++ stepList t a (pairsFrom role row j)) (
       ap (λ (l : List ℕ). stepList t a (withRole (at role i) l)) part-cons
       ∙ run-lines t a (at role i) (at row i) cs ok
@@ -204,12 +205,12 @@ module _ (role row : List ℕ) (n i j : ℕ) (p : PairsFit role row n) (e : RunE
       let z : k + suc d ≡ suc (k + d) = omega arith in
       rw z (le-trans (row-rise d k l (omega arith)) (row-step (k + d) (omega arith) (omega arith)))
 
-  part-at : (x : ℕ) → x < j - i → at (part row i j) x ≡ at row (i + x)
+  part-at : (x : ℕ) → x < j - i → at (runRows row i j) x ≡ at row (i + x)
   part-at x l = rw (getD-take, getD-drop)
 
-  pub run-contexts : Contexts (part row i j) n
+  pub run-contexts : Contexts (runRows row i j) n
   run-contexts =
-      let m : length (part row i j) ≡ j - i = part-length in
+      let m : length (runRows row i j) ≡ j - i = part-length in
       record {
         rising = λ x y l h. rw (part-at x (omega arith), part-at y (omega arith)) (
             let z : i + x + (y - x) ≡ i + y = omega arith in
@@ -218,5 +219,5 @@ module _ (role row : List ℕ) (n i j : ℕ) (p : PairsFit role row n) (e : RunE
         inside = λ x h. rw (part-at x (omega arith)) (p .inside (i + x) (omega (arith, e .within)));
       }
     where
-      part-length : length (part row i j) ≡ j - i
+      part-length : length (runRows row i j) ≡ j - i
       part-length = simp (length-take, length-drop) (omega (arith, e .within, p .even))

@@ -9,7 +9,7 @@ use native.Mathlib.Omega.{arith}
 use lib.ListN.{length, drop, drop-of-length-le}
 use lib.Seq.{drop-cons}
 use Rattle.tree.specs.Table.{at}
-use Rattle.step.specs.Most.{sumOf}
+use Rattle.step.specs.Bounds.{sumOf}
 
 pub sum-append : (f : ℕ → ℕ) (xs ys : List ℕ) → sumOf f (xs ++ ys) ≡ sumOf f xs + sumOf f ys
 unfolding sumOf

@@ -8,14 +8,15 @@ use lib.ListN.{length, replicate, length-append, length-drop, length-take}
 use borrow.Rule.Slice.PartMut.{midOf, putMid}
 use Rattle.tree.specs.Table.{Table, at}
 use Rattle.tree.specs.Pairs.{Pair, pairsOf, withRole, rolesOf, rowsOf}
-use Rattle.tree.specs.Step.{Ask, stepList}
+use Rattle.tree.specs.declared.Ask.{Ask}
+use Rattle.tree.specs.Step.{stepList}
 use Rattle.tree.proofs.PairColumns.{length-roles, length-rows, roles-append, rows-append}
-use Rattle.span.specs.Want.{wantedKind}
-use Rattle.span.specs.Reach.{Wrote}
+use Rattle.span.specs.Want.{wantOf}
+use Rattle.span.specs.OneRole.{Wrote}
 use Rattle.marks.specs.RowSet.{Blank}
 use Rattle.axis.specs.Role.{RoleAsk, RoleDone}
-use Rattle.step.specs.Runs.{pairsFrom, part, RunEnd}
-use Rattle.step.specs.Steps.{Steps, Fits, Lists}
+use Rattle.step.specs.Runs.{pairsFrom, runRows, RunEnd}
+use Rattle.step.specs.StepReady.{StepReady, HasRoom, Lists}
 use Rattle.span.proofs.WroteLaws.{wrote-as, wrote-none, wrote-length, wrote-part}
 use Rattle.step.proofs.RunLaws.{roleRows}
 use Rattle.step.proofs.CountedLaws.{length-role, step-at, step-end, row-most, run-asks}
@@ -42,8 +43,8 @@ pub record Written (t : Table) (a : Ask) (role row oldRole oldRow words outRole 
   roles : Wrote (rolesOf done) oldRole m outRole
   rows : Wrote (rowsOf done) oldRow m outRow
 
-module _ (t : Table) (a : Ask) (up role row oldRole oldRow : List ℕ) (s : Steps t a up role row)
-    (f : Fits t a role row oldRole oldRow) where
+module _ (t : Table) (a : Ask) (up role row oldRole oldRow : List ℕ) (s : StepReady t a up role row)
+    (f : HasRoom t a role row oldRole oldRow) where
   pub written-none : (words : List ℕ) → Blank words → Written t a role row oldRole oldRow words oldRole oldRow 0 0
   unfolding rolesOf rowsOf
   written-none words b = record {
@@ -77,7 +78,7 @@ module _ (t : Table) (a : Ask) (up role row oldRole oldRow : List ℕ) (s : Step
     module _ {j : ℕ} (e : RunEnd role i j) where
       -- the run's rows
       abbrev found : List ℕ
-      found = roleRows t a (part row i j)
+      found = roleRows t a (runRows row i j)
 
       run-all : length (stepList t a (pairsFrom role row i))
           ≡ length found + length (stepList t a (pairsFrom role row j))
@@ -91,15 +92,15 @@ module _ (t : Table) (a : Ask) (up role row oldRole oldRow : List ℕ) (s : Step
       pub written-starts : m ≤ length outRole
       written-starts = omega (arith, all, run-all, written-roles, f .roles)
 
-      pub written-asks : RoleAsk (a .axis) (t .size) (t .level) (t .kind) (t .name) up (t .count) (wantedKind (a .test))
-          (a .name) (part row i j) words (midOf m (length outRow - m) outRow)
+      pub written-asks : RoleAsk (a .axis) (t .size) (t .level) (t .kind) (t .name) (t .count) up
+          (runRows row i j) (wantOf a) words (midOf m (length outRow - m) outRow)
       written-asks =
           run-asks t a up role row s i j words _ e (w .blank)
           (simp (length-take, length-drop) (omega (arith, all, run-all, written-rows, f .rows)))
 
       module _ {words′ rows′ : List ℕ} {r : ℕ}
-          (d : RoleDone (a .axis) (t .level) (t .kind) (t .name) (t .count) (wantedKind (a .test)) (a .name)
-          (part row i j) words′ (midOf m (length outRow - m) outRow) r rows′) where
+          (d : RoleDone (a .axis) (t .level) (t .kind) (t .name) (t .count)
+          (runRows row i j) (wantOf a) words′ (midOf m (length outRow - m) outRow) r rows′) where
         pub written-room : r ≤ length (midOf m (length outRole - m) outRole)
         written-room =
             simp (length-take, length-drop) (omega (arith, d .wrote .many, all, run-all, written-roles, f .roles))

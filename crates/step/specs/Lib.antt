@@ -1,4 +1,4 @@
 pub mod Runs
-pub mod Steps
-pub mod Leaves
-pub mod Most
+pub mod StepReady
+pub mod StepLeaves
+pub mod Bounds

@@ -11,8 +11,8 @@ abbrev pub pairsFrom : List ℕ → List ℕ → ℕ → List Pair
 pairsFrom role row i = pairsOf (drop i role) (drop i row)
 
 -- the rows from place i on, and before place j
-abbrev pub part : List ℕ → ℕ → ℕ → List ℕ
-part row i j = take (j - i) (drop i row)
+abbrev pub runRows : List ℕ → ℕ → ℕ → List ℕ
+runRows row i j = take (j - i) (drop i row)
 
 -- the run of equal roles that begins at place i ends before place j
 pub record RunEnd (role : List ℕ) (i j : ℕ) : Type 0 where

@@ -3,7 +3,7 @@ ghost use mathlib.Core.Path.{_≡_};
 ghost use Rattle.tree.specs.Axis.{axisOk};
 ghost use Rattle.tree.specs.Test.{testOk};
 ghost use Rattle.tree.specs.Refusal.{askCheck};
-ghost use Rattle.tree.specs.Step.{askOf};
+use tree::Ask;
 use tree::Checked;
 
 // Whether the axis code is known.
@@ -17,24 +17,24 @@ fn axis_ok(axis: usize) -> bool
 }
 
 // Whether the test code is known and the name fits it.
-fn test_ok(test: usize, test_name: usize) -> bool
-    ensures { λ r. ⌜ r ≡ testOk test «test_name» ⌝ }
+fn test_ok(test: usize, name: usize) -> bool
+    ensures { λ r. ⌜ r ≡ testOk test name ⌝ }
 {
     match test {
-        2 | 6 => test_name != 0,
-        0..=7 => test_name == 0,
+        2 | 6 => name != 0,
+        0..=7 => name == 0,
         _ => false,
     }
 }
 
 // Refusal 6 or 7, or that the codes are right.
-pub(crate) fn check_ask(axis: usize, test: usize, test_name: usize) -> Checked
-    ensures { λ r. ⌜ r ≡ askCheck (askOf axis test «test_name») ⌝ }
+pub(crate) fn check_ask(ask: Ask) -> Checked
+    ensures { λ r. ⌜ r ≡ askCheck ask ⌝ }
 {
-    if !axis_ok(axis) {
+    if !axis_ok(ask.axis) {
         return Checked::Refused(6, 0);
     }
-    if !test_ok(test, test_name) {
+    if !test_ok(ask.test, ask.name) {
         return Checked::Refused(7, 0);
     }
     Checked::Passed

@@ -2,28 +2,21 @@
 ghost use mathlib.Core.Path.{_≡_};
 ghost use Rattle.tree.specs.Table.{tableOf};
 ghost use Rattle.tree.specs.Refusal.{next, tableCheck, pairCheck, askCheck};
-ghost use Rattle.tree.specs.Step.{askOf};
 use super::ask::check_ask;
 use table::pairs::check_pairs;
+use tree::Ask;
 use tree::Checked;
 
 // Refusals 3 to 7.
-fn check_pairs_and_ask(
-    role: &[usize],
-    row: &[usize],
-    count: usize,
-    axis: usize,
-    test: usize,
-    test_name: usize,
-) -> Checked
+fn check_pairs_and_ask(count: usize, role: &[usize], row: &[usize], ask: Ask) -> Checked
     ensures { λ r. ⌜ r ≡ next
         (pairCheck (now (role .entry)) (now (row .entry)) count)
-        (askCheck (askOf axis test «test_name»)) ⌝ }
+        (askCheck ask) ⌝ }
 {
-    let checked = check_pairs(role, row, count);
+    let checked = check_pairs(count, role, row);
     match checked {
         Checked::Refused(number, place) => Checked::Refused(number, place),
-        Checked::Passed => check_ask(axis, test, test_name),
+        Checked::Passed => check_ask(ask),
     }
 }
 
@@ -37,19 +30,17 @@ pub(crate) fn check_call(
     count: usize,
     role: &[usize],
     row: &[usize],
-    axis: usize,
-    test: usize,
-    test_name: usize,
+    ask: Ask,
 ) -> Checked
     ensures { λ r. ⌜ r ≡ next
         (tableCheck (tableOf (now (key .entry)) (now (size .entry)) (now (level .entry))
         (now (kind .entry)) (now (name .entry)) count))
         (next (pairCheck (now (role .entry)) (now (row .entry)) count)
-        (askCheck (askOf axis test «test_name»))) ⌝ }
+        (askCheck ask)) ⌝ }
 {
     let checked = table::check(key, size, level, kind, name, count);
     match checked {
         Checked::Refused(number, place) => Checked::Refused(number, place),
-        Checked::Passed => check_pairs_and_ask(role, row, count, axis, test, test_name),
+        Checked::Passed => check_pairs_and_ask(count, role, row, ask),
     }
 }

@@ -1,17 +1,18 @@
 // One location step for all roles: document 01, "The step". Nothing is written before it is known that all of it fits.
 ghost use Rattle.tree.specs.Table.{tableOf};
 ghost use Rattle.tree.specs.Outcome.{stepOutcome};
-ghost use Rattle.tree.specs.Step.{askOf};
-ghost use Rattle.step.specs.Leaves.{Leaves, Known};
+ghost use Rattle.step.specs.StepLeaves.{StepLeaves};
+ghost use Rattle.step.specs.StepReady.{CallChecked};
 
 mod ask; // ask.rt: the axis code, the test code and its name
 mod checks; // checks.rt: refusals 1 to 7
-mod most; // most.rt: an upper bound of the number of lines
+mod bounds; // bounds.rt: an upper bound of the number of lines
 mod runs; // runs.rt: the run of pairs of one role
 mod roles; // roles.rt: all roles
 mod room; // room.rt: whether the lines fit
 
 use axis::role::up_for;
+use tree::Ask;
 use tree::Checked;
 use tree::Stepped;
 use tree::logic::smaller;
@@ -27,22 +28,20 @@ pub fn step_known(
     count: usize,
     role: &[usize],
     row: &[usize],
-    axis: usize,
-    test: usize,
-    test_name: usize,
+    ask: Ask,
     out_role: &mut [usize],
     out_row: &mut [usize],
 ) -> Stepped
-    requires { ⌜ Known (tableOf (now key) (now size) (now level) (now kind) (now name) count)
-        (askOf axis test «test_name») (now role) (now row) ⌝ }
-    ensures { λ r. ⌜ Leaves (stepOutcome (tableOf (now (key .entry)) (now (size .entry)) (now (level .entry))
+    requires { ⌜ CallChecked (tableOf (now key) (now size) (now level) (now kind) (now name) count)
+        ask (now role) (now row) ⌝ }
+    ensures { λ r. ⌜ StepLeaves (stepOutcome (tableOf (now (key .entry)) (now (size .entry)) (now (level .entry))
         (now (kind .entry)) (now (name .entry)) count)
-        (now (role .entry)) (now (row .entry)) (askOf axis test «test_name»)
+        (now (role .entry)) (now (row .entry)) ask
         (now («out_role» .entry)) (now («out_row» .entry)))
         r (now («out_role» .exit)) (now («out_row» .exit)) ⌝ }
 {
     let mut up = [0usize; 4096];
-    up_for(axis, size, level, count, &mut up);
+    up_for(size, level, count, ask.axis, &mut up);
     let fitting = room::check_room(
         key,
         size,
@@ -53,9 +52,7 @@ pub fn step_known(
         &up,
         role,
         row,
-        axis,
-        test,
-        test_name,
+        ask,
         smaller(out_role.len(), out_row.len()),
     );
     match fitting {
@@ -71,9 +68,7 @@ pub fn step_known(
                 &up,
                 role,
                 row,
-                axis,
-                test,
-                test_name,
+                ask,
                 out_role,
                 out_row,
             );
@@ -92,31 +87,17 @@ pub fn step(
     count: usize,
     role: &[usize],
     row: &[usize],
-    axis: usize,
-    test: usize,
-    test_name: usize,
+    ask: Ask,
     out_role: &mut [usize],
     out_row: &mut [usize],
 ) -> Stepped
-    ensures { λ r. ⌜ Leaves (stepOutcome (tableOf (now (key .entry)) (now (size .entry)) (now (level .entry))
+    ensures { λ r. ⌜ StepLeaves (stepOutcome (tableOf (now (key .entry)) (now (size .entry)) (now (level .entry))
         (now (kind .entry)) (now (name .entry)) count)
-        (now (role .entry)) (now (row .entry)) (askOf axis test «test_name»)
+        (now (role .entry)) (now (row .entry)) ask
         (now («out_role» .entry)) (now («out_row» .entry)))
         r (now («out_role» .exit)) (now («out_row» .exit)) ⌝ }
 {
-    let checked = checks::check_call(
-        key,
-        size,
-        level,
-        kind,
-        name,
-        count,
-        role,
-        row,
-        axis,
-        test,
-        test_name,
-    );
+    let checked = checks::check_call(key, size, level, kind, name, count, role, row, ask);
     match checked {
         Checked::Refused(number, place) => Stepped::Refused(number, place),
         Checked::Passed => step_known(
@@ -128,9 +109,7 @@ pub fn step(
             count,
             role,
             row,
-            axis,
-            test,
-            test_name,
+            ask,
             out_role,
             out_row,
         ),

@@ -4,11 +4,12 @@ ghost use lib.Dec.{ltb};
 ghost use lib.ListN.{length};
 ghost use Rattle.tree.specs.Table.{tableOf};
 ghost use Rattle.tree.specs.Pairs.{pairsOf};
-ghost use Rattle.tree.specs.Step.{askOf, stepList};
+ghost use Rattle.tree.specs.Step.{stepList};
 ghost use Rattle.tree.specs.Refusal.{given};
-ghost use Rattle.step.specs.Steps.{Steps};
-use super::most::surely_fits;
+ghost use Rattle.step.specs.StepReady.{StepReady};
+use super::bounds::surely_fits;
 use super::roles::count_all;
+use tree::Ask;
 use tree::Checked;
 
 // Refusal 8 with the number of lines, or that they are at most room.
@@ -22,21 +23,19 @@ pub(crate) fn check_room(
     up: &[usize; 4096],
     role: &[usize],
     row: &[usize],
-    axis: usize,
-    test: usize,
-    test_name: usize,
+    ask: Ask,
     room: usize,
 ) -> Checked
-    requires { ⌜ Steps (tableOf (now key) (now size) (now level) (now kind) (now name) count)
-        (askOf axis test «test_name») (now up) (now role) (now row) ⌝ }
+    requires { ⌜ StepReady (tableOf (now key) (now size) (now level) (now kind) (now name) count)
+        ask (now up) (now role) (now row) ⌝ }
     ensures { λ r. ⌜ r ≡ given (ltb room (length (stepList
         (tableOf (now (key .entry)) (now (size .entry)) (now (level .entry))
         (now (kind .entry)) (now (name .entry)) count)
-        (askOf axis test «test_name») (pairsOf (now (role .entry)) (now (row .entry)))))) 8
+        ask (pairsOf (now (role .entry)) (now (row .entry)))))) 8
         (length (stepList
         (tableOf (now (key .entry)) (now (size .entry)) (now (level .entry))
         (now (kind .entry)) (now (name .entry)) count)
-        (askOf axis test «test_name») (pairsOf (now (role .entry)) (now (row .entry))))) ⌝ }
+        ask (pairsOf (now (role .entry)) (now (row .entry))))) ⌝ }
 {
     if surely_fits(
         key,
@@ -48,27 +47,12 @@ pub(crate) fn check_room(
         up,
         role,
         row,
-        axis,
-        test,
-        test_name,
+        ask,
         room,
     ) {
         return Checked::Passed;
     }
-    let total = count_all(
-        key,
-        size,
-        level,
-        kind,
-        name,
-        count,
-        up,
-        role,
-        row,
-        axis,
-        test,
-        test_name,
-    );
+    let total = count_all(key, size, level, kind, name, count, up, role, row, ask);
     if room < total {
         return Checked::Refused(8, total);
     }

@@ -1,7 +1,7 @@
 // The run of pairs of one role, and its number beside each of its lines.
 ghost use Prim.Native.Nat.{_<_, _≤_};
 ghost use lib.ListN.{length, replicate};
-ghost use Rattle.span.specs.Reach.{Wrote};
+ghost use Rattle.span.specs.OneRole.{Wrote};
 ghost use Rattle.step.specs.Runs.{RunEnd};
 
 // The place after the run of equal roles that begins at i.

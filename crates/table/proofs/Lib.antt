@@ -1,3 +1,3 @@
-pub mod OpenLaws
+pub mod OnePassLaws
 pub mod PairLaws
-pub mod OnlyLaws
+pub mod TableOnlyLaws

@@ -1,3 +1,3 @@
-pub mod First
-pub mod Open
+pub mod FirstBad
+pub mod OnePass
 pub mod Places

@@ -7,7 +7,7 @@ ghost use Rattle.tree.specs.Table.{tableOf};
 ghost use Rattle.tree.specs.Outcome.{checkOutcome, findOutcome, located};
 
 pub mod rows; // rows.rt: the rules of a row, and the least row that breaks one
-mod pass; // pass.rt: all rows in one pass
+mod one_pass; // one_pass.rt: all rows in one pass
 pub mod pairs; // pairs.rt: the pairs of role and row
 
 use tree::Checked;

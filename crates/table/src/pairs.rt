@@ -40,7 +40,7 @@ fn falls_somewhere(role: &[usize], row: &[usize]) -> bool
 }
 
 // Whether some row is not below the count: false only where none is.
-fn leaves_somewhere(row: &[usize], count: usize) -> bool
+fn leaves_somewhere(count: usize, row: &[usize]) -> bool
     ensures { λ r. ⌜ (r ≡ false → Inside (now (row .entry)) count) ⌝ }
 {
     let mut outside = false;
@@ -79,7 +79,7 @@ fn first_disorder(role: &[usize], row: &[usize]) -> usize
 }
 
 // The least place whose row is not below the count, or the number of pairs.
-fn first_outside(row: &[usize], count: usize) -> usize
+fn first_outside(count: usize, row: &[usize]) -> usize
     ensures { λ r. ⌜ r ≡ least (λ i. not (ltb (at (now (row .entry)) i) count)) (length (now (row .entry))) ⌝ }
 {
     let mut i = 0;
@@ -93,7 +93,7 @@ fn first_outside(row: &[usize], count: usize) -> usize
 }
 
 // Refusal 3, 4 or 5, or that the pairs ascend and name rows below the count.
-pub fn check_pairs(role: &[usize], row: &[usize], count: usize) -> Checked
+pub fn check_pairs(count: usize, role: &[usize], row: &[usize]) -> Checked
     ensures { λ r. ⌜ r ≡ pairCheck (now (role .entry)) (now (row .entry)) count ⌝ }
 {
     if role.len() != row.len() {
@@ -102,14 +102,14 @@ pub fn check_pairs(role: &[usize], row: &[usize], count: usize) -> Checked
     if 4096 < role.len() {
         return Checked::Refused(3, 0);
     }
-    if !either(falls_somewhere(role, row), leaves_somewhere(row, count)) {
+    if !either(falls_somewhere(role, row), leaves_somewhere(count, row)) {
         return Checked::Passed;
     }
     let disorder = first_disorder(role, row);
     if disorder < role.len() {
         return Checked::Refused(4, disorder);
     }
-    let outside = first_outside(row, count);
+    let outside = first_outside(count, row);
     if outside < row.len() {
         return Checked::Refused(5, outside);
     }

@@ -24,7 +24,7 @@ use Rattle.tree.specs.declared.Carried.the-variants.{Written}
 use Rattle.tree.proofs.SoundLaws.{both, both-of, next-passed, given-passed, given-not}
 use Rattle.tree.proofs.RoleLaws.{pair-passes}
 use Rattle.tree.proofs.StepAccept.{room-passes}
-use Rattle.tree.proofs.MoveLaws.{move-adds, move-ok, new-row, gone-row}
+use Rattle.tree.proofs.RowMoveLaws.{move-adds, move-ok, new-row, gone-row}
 use Rattle.tree.proofs.CarryLaws.{carried-in, carried-same, carried-most}
 use Rattle.tree.proofs.PairColumns.{length-roles, length-rows, length-pairs, pairs-below, rows-below}
 use Rattle.tree.proofs.SortedLaws.{Sorted, order-at, sorted-there, sorted-back}

@@ -9,7 +9,7 @@ use lib.ListN.{replicate}
 use Rattle.tree.specs.Search.{least, someBelow, nearest, gather}
 use Rattle.tree.specs.Table.{Table, tableOf, shortest, countOk}
 use Rattle.tree.specs.Sound.{levelOk, runOf, sizeOf, sizeOk, kindOk, hasName, nameOk}
-use Rattle.tree.specs.Sound.{rowOf, keyOk, restOk, rowOk, firstBad}
+use Rattle.tree.specs.Sound.{rowOf, keyOk, besideKeyOk, rowOk, firstBad}
 use Rattle.tree.specs.Tree.{parent, above, ancestor, siblings, root, sameTree, otherRoot}
 use Rattle.tree.specs.Axis.{axisOk, following, preceding, onAxis}
 use Rattle.tree.specs.Test.{testOk, passes}
@@ -270,7 +270,7 @@ unfolding checkOutcome findOutcome foundIf located stepOutcome stepIf stepCheck 
     deleteDone renameDone drops remaining keptCount listed reached linesOf stepList pairsOf withRole rolesOf rowsOf
     before outOfOrder some distinct testOk passes axisOk following preceding onAxis parent above ancestor siblings root
     sameTree otherRoot
-    levelOk runOf sizeOf sizeOk kindOk hasName nameOk rowOf keyOk restOk rowOk firstBad shortest countOk least nearest
+    levelOk runOf sizeOf sizeOk kindOk hasName nameOk rowOf keyOk besideKeyOk rowOk firstBad shortest countOk least nearest
     someBelow gather
 several-farms = refl
 

@@ -9,7 +9,7 @@ pub mod AscendLaws
 pub mod RoleLaws
 pub mod AskLaws
 pub mod StepAccept
-pub mod MoveLaws
+pub mod RowMoveLaws
 pub mod CarryLaws
 pub mod PairColumns
 pub mod SortedLaws
@@ -27,7 +27,7 @@ pub mod NodeSizes
 pub mod NodeSound
 pub mod Commute
 pub mod SizeLaws
-pub mod KeepLaws
+pub mod GoodEditLaws
 pub mod EditLaws
 pub mod FindLaws
 pub mod EditSizes

@@ -12,7 +12,7 @@ use native.Mathlib.Decide.{ℕ-discrete}
 use borrow.Author.Tests.{eq-eqb, ne-eqb, le-leb}
 use lib.Dec.{eqb, leb, ltb}
 use Rattle.tree.specs.Table.{Table, at, countOk}
-use Rattle.tree.specs.Sound.{levelOk, kindOk, restOk, firstBad, sizeOk, nameOk}
+use Rattle.tree.specs.Sound.{levelOk, kindOk, besideKeyOk, firstBad, sizeOk, nameOk}
 use Rattle.tree.specs.Rules.{Sound}
 use Rattle.tree.specs.EditRules.{OtherRoot}
 use Rattle.tree.specs.Tree.{ancestor, root, sameTree, otherRoot}
@@ -74,14 +74,14 @@ first false s x y w n = refl
 
 -- 01: a later row's level is 1 or more, and a document stands only at row 0
 pub one-row : (t : Table) → Lone (t .level) (t .count) → (i : ℕ) → i < t .count
-    → restOk t i
+    → besideKeyOk t i
     ≡ (cond (eqb i 0) (eqb (at (t .level) i) 0)
     (leb 1 (at (t .level) i) && leb (at (t .level) i) 63 && leb (at (t .level) i) (at (t .level) (i - 1) + 1))
     && sizeOk (t .size) (t .level) (t .count) i
     && (leb (at (t .kind) i) 4 && (not (eqb (at (t .kind) i) 0) || eqb i 0)
     && (leb (at (t .kind) i) 1 || eqb (at (t .size) i) 0))
     && nameOk (at (t .kind) i) (at (t .name) i))
-unfolding restOk levelOk kindOk
+unfolding besideKeyOk levelOk kindOk
 one-row t o i l = elim (ℕ-discrete i 0) [
   | yes z ↦ rw (eq-eqb i 0 z) (first (eqb (at (t .level) i) 0) (sizeOk (t .size) (t .level) (t .count) i)
       (leb (at (t .kind) i) 4) (not (eqb (at (t .kind) i) 0)) (leb (at (t .kind) i) 1 || eqb (at (t .size) i) 0)

@@ -2,7 +2,7 @@
 -- tables whose rows in use are the same get the same answer to the check, `in-use-check`, to a find, `in-use-find`,
 -- and to a step, result columns too, `in-use-step`. `SameRows` is the only premise: of each column it says that it has
 -- as many rows as the count in both tables or in neither, so refusal 1 agrees too. For edits: `in-use-edit`,
--- `in-use-piece` (commute/proofs/InUseLaws.antt). Assumes nothing.
+-- `in-use-piece` (after_edit/proofs/InUseLaws.antt). Assumes nothing.
 use mathlib.Core.Path.{_≡_, refl, sym, ap, ap₂, _∙_}
 use mathlib.Core.Logic.{inl, inr}
 use mathlib.Core.Bool.{Bool, true, false, cond, not, _&&_, _||_}
@@ -17,7 +17,7 @@ use lib.ListN.{take, drop, length-take}
 use lib.Seq.{take-take, getD-take}
 use Rattle.tree.specs.Search.{someBelow, nearest}
 use Rattle.tree.specs.Table.{Table, at, shortest, countOk, SameRows}
-use Rattle.tree.specs.Sound.{levelOk, runOf, sizeOf, sizeOk, rowOf, keyOk, restOk, rowOk, firstBad}
+use Rattle.tree.specs.Sound.{levelOk, runOf, sizeOf, sizeOk, rowOf, keyOk, besideKeyOk, rowOk, firstBad}
 use Rattle.tree.specs.Tree.{parent, above, ancestor, siblings, root, sameTree, otherRoot}
 use Rattle.tree.specs.Axis.{following, preceding, onAxis}
 use Rattle.tree.specs.Test.{passes}
@@ -158,7 +158,7 @@ module _ (t : Table) where
 
   -- the test of a row in use
   cut-row : (i : ℕ) → i < t .count → rowOk (cut t) i ≡ rowOk t i
-  unfolding rowOk restOk levelOk sizeOk keyOk
+  unfolding rowOk besideKeyOk levelOk sizeOk keyOk
   cut-row i l =
       let m : i - 1 < t .count = omega arith in
       simp (

@@ -8,6 +8,7 @@ use lib.Dec.{ltb, leb}
 use lib.IntN.{ℤ, pos, natAbs, _+ℤ_}
 use lib.ListN.{length}
 use lib.Signed.{leZ}
+use Rattle.tree.specs.Table.{mostRows}
 use Rattle.tree.specs.Pairs.{Pair, pair, pairsOf, rolesOf, rowsOf}
 use Rattle.tree.specs.Refusal.{given, next, pairCheck, roomCheck}
 use Rattle.tree.specs.Outcome.{overwritten}
@@ -30,19 +31,19 @@ carriedBy goes to [] = []
 carriedBy goes to (p ∷ ps) =
     cond (goes (p .row)) (carriedBy goes to ps) (pair (p .role) (to (p .row)) ∷ carriedBy goes to ps)
 
--- the new list; where the call is accepted no new row is negative: `new-row` (proofs/MoveLaws.antt)
+-- the new list; where the call is accepted no new row is negative: `new-row` (proofs/RowMoveLaws.antt)
 unfoldable pub carried : ℕ → ℤ → List Pair → List Pair
 carried first moved ps = carriedBy (wasDeleted first moved) (λ w. natAbs (rowAfter first moved w)) ps
 
--- the old count is 1 to 4,096
+-- the old count is 1 to `mostRows`
 unfoldable pub oldCountOk : ℕ → Bool
-oldCountOk old = leb 1 old && leb old 4096
+oldCountOk old = leb 1 old && leb old mostRows
 
--- the first moved row is 1 to the old count and not below 0 once the move is added, and the new count is 1 to 4,096
+-- the first moved row is 1 to the old count and not below 0 once the move is added, and the new count is 1 to `mostRows`
 unfoldable pub moveOk : ℕ → ℕ → ℤ → Bool
 moveOk old first moved =
     leb 1 first && leb first old && leZ (pos 0) (pos first +ℤ moved)
-    && leZ (pos 1) (pos old +ℤ moved) && leZ (pos old +ℤ moved) (pos 4096)
+    && leZ (pos 1) (pos old +ℤ moved) && leZ (pos old +ℤ moved) (pos mostRows)
 
 -- what carrying answers, and the result columns as it leaves them
 pub record CarryOutcome : Type 0 where

@@ -1,5 +1,5 @@
 -- When carrying pairs over an edit is accepted, as propositions: 02, E1. That the checks of Carry say the same is
--- `move-ok` (proofs/MoveLaws.antt) and `carry-passes` (proofs/CarryAccept.antt). Assumes nothing.
+-- `move-ok` (proofs/RowMoveLaws.antt) and `carry-passes` (proofs/CarryAccept.antt). Assumes nothing.
 use mathlib.Core.Path.{_≡_}
 use mathlib.Core.Bool.{Bool, cond, _&&_}
 use mathlib.Core.List.{List}
@@ -7,6 +7,7 @@ use Prim.Native.Nat.{ℕ, _+_, _-_, _≤_}
 use lib.Dec.{ltb, leb}
 use lib.IntN.{ℤ, pos, _+ℤ_}
 use lib.ListN.{length}
+use Rattle.tree.specs.Table.{mostRows}
 use Rattle.tree.specs.Pairs.{pairsOf}
 use Rattle.tree.specs.StepRules.{PairsFit}
 use Rattle.tree.specs.Carry.{carried}
@@ -21,18 +22,18 @@ pub record MoveFits (old first : ℕ) (moved : ℤ) : Type 0 where
   pub lands : pos first +ℤ moved ≡ pos to
   pub leaves : pos old +ℤ moved ≡ pos new
   pub rows : 1 ≤ new
-  pub few : new ≤ 4096
+  pub few : new ≤ mostRows
 
--- the old count is 1 to 4,096, the pairs fit it, the move fits, and both result columns have room for the new list
+-- the old count is 1 to `mostRows`, the pairs fit it, the move fits, and both result columns have room for the new list
 pub record CarryFits (role row : List ℕ) (old first : ℕ) (moved : ℤ) (outRole outRow : List ℕ) : Type 0 where
   pub some : 1 ≤ old
-  pub few : old ≤ 4096
+  pub few : old ≤ mostRows
   pub pairs : PairsFit role row old
   pub move : MoveFits old first moved
   pub roles : length (carried first moved (pairsOf role row)) ≤ length outRole
   pub rows : length (carried first moved (pairsOf role row)) ≤ length outRow
 
--- ── in row numbers, where the first moved row goes to the row `to`: `new-row` and `gone-row` (proofs/MoveLaws.antt) ──
+-- ── in row numbers, where the first moved row goes to the row `to`: `new-row` and `gone-row` (proofs/RowMoveLaws.antt) ──
 -- row w after the edit
 abbrev pub newRow : ℕ → ℕ → ℕ → ℕ
 newRow to first w = cond (ltb w first) w (w - first + to)

@@ -9,13 +9,13 @@ use Prim.Native.Nat.{ℕ, _<_, _≤_}
 use lib.ListN.{length}
 use Rattle.tree.specs.Table.{Table, at}
 use Rattle.tree.specs.Rules.{Sound}
-use Rattle.tree.specs.Pairs.{pairsOf, outOfOrder}
+use Rattle.tree.specs.Pairs.{mostPairs, pairsOf, outOfOrder}
 use Rattle.tree.specs.Step.{Ask, stepList}
 
 -- refusals 3 to 5 do not apply
 pub record PairsFit (role row : List ℕ) (n : ℕ) : Type 0 where
   pub even : length role ≡ length row
-  pub few : length role ≤ 4096
+  pub few : length role ≤ mostPairs
   pub order : (i : ℕ) → i < length role → outOfOrder role row i ≡ false
   pub inside : (i : ℕ) → i < length role → at row i < n
 

@@ -3,7 +3,7 @@ use mathlib.Core.Path.{sym, _∙_}
 use native.Mathlib.Omega.{arith}
 use mir.Syntax.{w64}
 use mir.Facts.{toZ-ofZ}
-use Rattle.carry.proofs.LeavesLaws.{leaves-refused, call-moves, leaves-full, call-ready, leaves-written}
+use Rattle.carry.proofs.CarryLeavesLaws.{leaves-refused, call-moves, leaves-full, call-ready, leaves-written}
 use borrow.Author.Needs.{needs}
 use Rattle.carry.proofs.carry.Statement.{statement}
 use Rattle.carry.proofs.carry.Tie as tie

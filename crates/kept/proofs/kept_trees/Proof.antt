@@ -11,10 +11,10 @@ use Rattle.kept.proofs.kept_trees.Statement.{statement}
 use Rattle.kept.proofs.kept_trees.Tie as tie
 
 abbrev Inv-loop : tie.InvT-loop
-Inv-loop size level top count rows first last kept₀ i₀ kept i = Trees level rows kept i
+Inv-loop size level count top rows first last kept₀ i₀ kept i = Trees level rows kept i
 
 abbrev μ-loop : tie.MeasureT-loop
-μ-loop size level top count rows first last kept₀ i₀ kept i = length rows - i
+μ-loop size level count top rows first last kept₀ i₀ kept i = length rows - i
 
 -- where the function begins, from where its contexts are of several trees
 abbrev start : tie.Else1 Inv-loop μ-loop → tie.Start Inv-loop μ-loop

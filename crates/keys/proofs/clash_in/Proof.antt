@@ -9,7 +9,7 @@ use borrow.Author.Tests.{not-true, not-false}
 use Rattle.tree.specs.Table.{at}
 use Rattle.tree.specs.Sound.{rowOf}
 use Rattle.tree.proofs.SearchLaws.{least-at, least-end}
-use Rattle.keys.specs.Chain.{Room, Chained}
+use Rattle.keys.specs.Chain.{ChainRoom, Chained}
 use Rattle.keys.proofs.KeyLaws.{clash-taken, clash-none}
 use borrow.Author.Needs.{needs}
 use Rattle.keys.proofs.clash_in.Statement.{statement}
@@ -17,7 +17,7 @@ use Rattle.keys.proofs.clash_in.Tie as tie
 
 abbrev Inv-loop : tie.InvT-loop
 Inv-loop key n piece m heads next buckets i₀ i =
-    (i ≤ m) × Room heads next buckets n × Chained buckets key heads next n
+    (i ≤ m) × ChainRoom heads next buckets n × Chained buckets key heads next n
     × ((j : ℕ) → j < i → ltb (rowOf key n (at piece j)) n ≡ false)
 
 abbrev μ-loop : tie.MeasureT-loop

@@ -8,7 +8,7 @@ use lib.ListN.{length, length-set}
 use borrow.Author.Count.{below-more, below-none}
 use borrow.Author.Tests.{not-true, not-false}
 use Rattle.tree.proofs.SearchLaws.{least-at, least-end}
-use Rattle.keys.specs.First.{firstKey}
+use Rattle.keys.specs.FirstKey.{firstKey}
 use Rattle.tree.specs.Sound.{keyOk}
 use Rattle.keys.specs.Chain.{Chained}
 use Rattle.keys.proofs.KeyLaws.{chained-more, key-zero, key-again, key-good}

@@ -9,10 +9,10 @@ use Rattle.keys.proofs.fresh.Statement.{statement}
 use Rattle.keys.proofs.fresh.Tie as tie
 
 abbrev Inv-loop : tie.InvT-loop
-Inv-loop key heads next buckets i x b r₀ r = Walk buckets key x i r
+Inv-loop key i x heads next buckets b r₀ r = Walk buckets key x i r
 
 abbrev μ-loop : tie.MeasureT-loop
-μ-loop key heads next buckets i x b r₀ r = r
+μ-loop key i x heads next buckets b r₀ r = r
 
 bucket-requires : tie.Need-bucket-requires Inv-loop μ-loop
 bucket-requires c κs = search needs

@@ -5,10 +5,10 @@ use Rattle.reach.proofs.print_results.Statement.{statement}
 use Rattle.reach.proofs.print_results.Tie as tie
 
 abbrev Inv-loop : tie.InvT-loop
-Inv-loop role row key n i₀ i = i ≤ n
+Inv-loop key role row n i₀ i = i ≤ n
 
 abbrev μ-loop : tie.MeasureT-loop
-μ-loop role row key n i₀ i = n - i
+μ-loop key role row n i₀ i = n - i
 
 loop-holds : tie.Need-loop-holds Inv-loop μ-loop
 loop-holds c = search needs

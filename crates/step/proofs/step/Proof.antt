@@ -1,6 +1,6 @@
 -- `step::step` meets its contract: a call that the checks refuse leaves everything, any other goes on. Assumes nothing.
 use mathlib.Core.Path.{sym, _∙_}
-use Rattle.step.proofs.LeavesLaws.{leaves-refused, call-known}
+use Rattle.step.proofs.StepLeavesLaws.{leaves-refused, call-known}
 use borrow.Author.Needs.{needs}
 use Rattle.step.proofs.step.Statement.{statement}
 use Rattle.step.proofs.step.Tie as tie

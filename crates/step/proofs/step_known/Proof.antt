@@ -3,7 +3,7 @@ use mathlib.Core.Path.{sym, _∙_}
 use Rattle.tree.specs.Refusal.{roomCheck}
 use Rattle.tree.proofs.SoundLaws.{sound-shape}
 use Rattle.marks.proofs.RootedLaws.{up-zeros}
-use Rattle.step.proofs.LeavesLaws.{leaves-full, room-fits, leaves-listed}
+use Rattle.step.proofs.StepLeavesLaws.{leaves-full, room-fits, leaves-listed}
 use borrow.Author.Needs.{needs}
 use Rattle.step.proofs.step_known.Statement.{statement}
 use Rattle.step.proofs.step_known.Tie as tie
@@ -20,7 +20,7 @@ check-room-requires : tie.Need-check-room-requires
 check-room-requires c κs =
     let found = c .before .before in
     let known = found .before .before .before .before .before .before .before .before .before .before .before .pre in
-    record { sound = known .sound; pairs = known .pairs; asked = known .asked; links = found .up-for .ensures }
+    record { call = known; links = found .up-for .ensures }
 
 enum-known-fitting : tie.Need-enum-known-fitting
 enum-known-fitting c = search needs
@@ -35,12 +35,7 @@ write-all-requires c κs =
     let found = told .before .before .before .before .before in
     let known = found .before .before .before .before .before .before .before .before .before .before .before .pre in
     let room = rw (told .before .before .before .smaller .ensures) at (told .before .before .check-room .ensures) in (
-      record {
-        sound = known .sound;
-        pairs = known .pairs;
-        asked = known .asked;
-        links = found .up-for .ensures;
-      },
+      record { call = known; links = found .up-for .ensures },
       room-fits _ _ _ _ _ _ (sym room ∙ told .enum-told .given .1),
     )
 

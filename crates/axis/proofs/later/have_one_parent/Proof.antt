@@ -12,11 +12,11 @@ use Rattle.axis.proofs.later.have_one_parent.Statement.{statement}
 use Rattle.axis.proofs.later.have_one_parent.Tie as tie
 
 abbrev Inv-loop : tie.InvT-loop
-Inv-loop up count rows first q k₀ k =
+Inv-loop count up rows first q k₀ k =
     (k ≤ length rows) × ((j : ℕ) → j < k → at up (at rows j) ≡ at up (at rows 0))
 
 abbrev μ-loop : tie.MeasureT-loop
-μ-loop up count rows first q k₀ k = length rows - k
+μ-loop count up rows first q k₀ k = length rows - k
 
 -- the entry
 abbrev head : tie.At-loop Inv-loop μ-loop → tie.Start Inv-loop μ-loop

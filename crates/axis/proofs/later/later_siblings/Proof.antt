@@ -14,11 +14,11 @@ use Rattle.axis.proofs.later.later_siblings.Statement.{statement}
 use Rattle.axis.proofs.later.later_siblings.Tie as tie
 
 abbrev Inv-loop : tie.InvT-loop
-Inv-loop size level kind name up count rows want-kind want-name words₀ out₀ next₀ i₀ words out next i =
-    Grouped level count (fits want-kind want-name kind name) rows out₀ out next i × Blank words
+Inv-loop size level kind name count up rows want words₀ out₀ next₀ i₀ words out next i =
+    Grouped level count (fits want kind name) rows out₀ out next i × Blank words
 
 abbrev μ-loop : tie.MeasureT-loop
-μ-loop size level kind name up count rows want-kind want-name words₀ out₀ next₀ i₀ words out next i = length rows - i
+μ-loop size level kind name count up rows want words₀ out₀ next₀ i₀ words out next i = length rows - i
 
 -- the entry
 abbrev head : tie.At-loop Inv-loop μ-loop → tie.Start Inv-loop μ-loop
@@ -32,8 +32,8 @@ turn p = p .before .before .before
 whole : (s : tie.At-loop Inv-loop μ-loop) → length (s .loop .out) ≡ length (head s .args .out .now)
 whole s = group-length (head s .pre .0) (s .loop .inv .0)
 
-place : (s : tie.At-loop Inv-loop μ-loop) → s .loop .next ≤ length (s .loop .out)
-place s = group-place (head s .pre .0) (s .loop .inv .0)
+written : (s : tie.At-loop Inv-loop μ-loop) → s .loop .next ≤ length (s .loop .out)
+written s = group-place (head s .pre .0) (s .loop .inv .0)
 
 loop-holds : tie.Need-loop-holds Inv-loop μ-loop
 loop-holds c =
@@ -59,15 +59,15 @@ past-tree-requires c κs =
 
 mul-part : tie.Need-mul-part Inv-loop μ-loop
 mul-part c =
-    let p = place (turn c .before) in
+    let p = written (turn c .before) in
     let w = whole (turn c .before) in
     omega arith
 
 sub-part : tie.Need-sub-part Inv-loop μ-loop
-sub-part c = place (turn c .before)
+sub-part c = written (turn c .before)
 
 part-part-start : tie.Need-part-part-start Inv-loop μ-loop
-part-part-start c = place (turn c .before)
+part-part-start c = written (turn c .before)
 
 part-part-end : tie.Need-part-part-end Inv-loop μ-loop
 part-part-end c = le-refl _

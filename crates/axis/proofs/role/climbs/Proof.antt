@@ -1,26 +1,24 @@
--- `axis::role::climbs` meets its contract: the tests, joined in the definition's order. Assumes nothing.
-use Rattle.axis.specs.Role.{climbsAxis}
-use borrow.Author.Needs.{needs}
+-- `axis::role::climbs` meets its contract, arm by arm. Assumes nothing.
+use mathlib.Core.Path.{sym}
+use native.Mathlib.Omega.{arith}
+use Rattle.axis.proofs.RoleAxisLaws.{climbs-triple, siblings-climb, climbs-not}
 use Rattle.axis.proofs.role.climbs.Statement.{statement}
 use Rattle.axis.proofs.role.climbs.Tie as tie
 
-either-requires : tie.Need-either-requires
-either-requires c κs = search needs
-
-either-requires-2 : tie.Need-either-requires-2
-either-requires-2 c κs = search needs
-
-either-requires-3 : tie.Need-either-requires-3
-either-requires-3 c κs = search needs
-
-either-requires-4 : tie.Need-either-requires-4
-either-requires-4 c κs = search needs
-
 returns : tie.Need-returns
-unfolding climbsAxis
-returns c = cc
+returns c = sym (climbs-triple _ (c .before .if1 .left) (c .if2 .taken))
+
+returns-2 : tie.Need-returns-2
+returns-2 c = sym (siblings-climb _ (c .before .if3 .left) (c .if4 .taken))
+
+returns-3 : tie.Need-returns-3
+returns-3 c = sym (climbs-not _ (λ l h. omega (arith, c .if1 .taken)) (λ l h. omega (arith, c .if1 .taken)))
+
+returns-4 : tie.Need-returns-4
+returns-4 c = sym (climbs-not _ (λ l h. omega (arith, c .before .if2 .left)) (λ l h. omega (arith, c .if3 .taken)))
+
+returns-5 : tie.Need-returns-5
+returns-5 c = sym (climbs-not _ (λ l h. omega (arith, c .if4 .left)) (λ l h. omega (arith, c .if4 .left)))
 
 pub climbs-spec : {M : Type 1} → statement M
-climbs-spec =
-    tie.close
-    (tie.spec either-requires either-requires-2 either-requires-3 either-requires-4 returns)
+climbs-spec = tie.close (tie.spec returns returns-2 returns-3 returns-4 returns-5)

@@ -8,7 +8,7 @@ use lib.Signed.{mag}
 use mir.Syntax.{w64}
 use mir.Val.{toZ, ofZ}
 use Rattle.tree.specs.CarryRules.{MoveFits}
-use Rattle.tree.proofs.MoveLaws.{move-ok}
+use Rattle.tree.proofs.RowMoveLaws.{move-ok}
 use Rattle.carry.specs.Moves.{MovesRow}
 use Rattle.carry.proofs.SignedLaws.{sum-fits, sum-is, fits-small, row-moves}
 use borrow.Author.Needs.{needs}

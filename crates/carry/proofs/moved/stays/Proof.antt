@@ -2,7 +2,7 @@
 use mathlib.Core.Path.{sym, ap}
 use mathlib.Core.Bool.{Bool, cond}
 use borrow.Author.Tests.{lt-ltb, le-leb, lt-leb}
-use Rattle.carry.proofs.LeftLaws.{behind-it}
+use Rattle.carry.proofs.StayLaws.{behind-it}
 use borrow.Author.Needs.{needs}
 use Rattle.carry.proofs.moved.stays.Statement.{statement}
 use Rattle.carry.proofs.moved.stays.Tie as tie

@@ -8,16 +8,16 @@ use borrow.Author.Needs.{needs}
 use lib.ListN.{length}
 use Rattle.span.specs.Want.{fits}
 use Rattle.direct.proofs.ClimbLaws.{Climbed, climb-start, climb-yes, climb-no, climb-less, climb-done}
-use Rattle.direct.proofs.ClimbLaws.{climb-place, climb-length}
+use Rattle.direct.proofs.ClimbLaws.{climb-room, climb-length}
 use Rattle.direct.proofs.above.climb.Statement.{statement}
 use Rattle.direct.proofs.above.climb.Tie as tie
 
 abbrev Inv-loop : tie.InvT-loop
-Inv-loop size level kind name up count floor start want-kind want-name out₀ place next₀ at₀ out next at =
-    Climbed level count floor start (fits want-kind want-name kind name) out₀ place out next at
+Inv-loop size level kind name count up floor start want out₀ written next₀ link₀ out next link =
+    Climbed level count floor start (fits want kind name) out₀ written out next link
 
 abbrev μ-loop : tie.MeasureT-loop
-μ-loop size level kind name up count floor start want-kind want-name out₀ place next₀ at₀ out next at = at
+μ-loop size level kind name count up floor start want out₀ written next₀ link₀ out next link = link
 
 -- where the function begins
 abbrev head : tie.At-loop Inv-loop μ-loop → tie.Start Inv-loop μ-loop
@@ -37,7 +37,7 @@ free : (c : tie.Then1 Inv-loop μ-loop) → (let l = c .before .before .before .
 free c =
     let t = c .before in
     let s = t .before .before in
-    climb-place (head s .pre) (s .loop .inv) (s .loop .at - 1) (omega arith) (t .before .loop-test .taken)
+    climb-room (head s .pre) (s .loop .inv) (s .loop .link - 1) (omega arith) (t .before .loop-test .taken)
     (sym (t .fits-row .ensures) ∙ c .if1 .taken)
 
 -- out keeps its length
@@ -59,17 +59,17 @@ add-next c =
     let w = whole (c .before .before .before) in
     omega arith
 
-mul-at : tie.Need-mul-at Inv-loop μ-loop
-mul-at c = search needs
+mul-link : tie.Need-mul-link Inv-loop μ-loop
+mul-link c = search needs
 
-element-copy-out-at : tie.Need-element-copy-out-at Inv-loop μ-loop
-element-copy-out-at c = search needs
+element-copy-out-link : tie.Need-element-copy-out-link Inv-loop μ-loop
+element-copy-out-link c = search needs
 
 loop-less : tie.Need-loop-less Inv-loop μ-loop
 loop-less c =
     let t = c .before .before .before in
     let s = t .before in
-    climb-less (head s .pre) (s .loop .inv) (s .loop .at - 1) (omega arith) (t .loop-test .taken)
+    climb-less (head s .pre) (s .loop .inv) (s .loop .link - 1) (omega arith) (t .loop-test .taken)
 
 loop-again : tie.Need-loop-again Inv-loop μ-loop
 loop-again c =
@@ -77,9 +77,9 @@ loop-again c =
     let m = t .before .loop-test .taken in
     let s = t .before .before in
     ⊎-elim
-    (λ w. rw (w .1, w .2) (climb-yes (head s .pre) (s .loop .inv) (s .loop .at - 1) (omega arith) m
+    (λ w. rw (w .1, w .2) (climb-yes (head s .pre) (s .loop .inv) (s .loop .link - 1) (omega arith) m
     (sym (t .fits-row .ensures) ∙ w .0 .taken)))
-    (λ w. rw (w .1, w .2) (climb-no (head s .pre) (s .loop .inv) (s .loop .at - 1) (omega arith) m
+    (λ w. rw (w .1, w .2) (climb-no (head s .pre) (s .loop .inv) (s .loop .link - 1) (omega arith) m
     (sym (t .fits-row .ensures) ∙ w .0 .left)))
     (c .before .if1 .came)
 
@@ -101,8 +101,8 @@ climb-spec =
     mul-out
     slice-write-out
     add-next
-    mul-at
-    element-copy-out-at
+    mul-link
+    element-copy-out-link
     loop-less
     loop-again
     same-length

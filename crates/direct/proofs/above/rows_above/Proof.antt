@@ -12,11 +12,11 @@ use Rattle.direct.proofs.above.rows_above.Statement.{statement}
 use Rattle.direct.proofs.above.rows_above.Tie as tie
 
 abbrev Inv-loop : tie.InvT-loop
-Inv-loop own size level kind name up count rows want-kind want-name out₀ next₀ floor₀ i₀ out next floor i =
-    Ascent own level count (fits want-kind want-name kind name) rows out₀ out next floor i
+Inv-loop size level kind name count up rows own want out₀ next₀ floor₀ i₀ out next floor i =
+    Ascent own level count (fits want kind name) rows out₀ out next floor i
 
 abbrev μ-loop : tie.MeasureT-loop
-μ-loop own size level kind name up count rows want-kind want-name out₀ next₀ floor₀ i₀ out next floor i =
+μ-loop size level kind name count up rows own want out₀ next₀ floor₀ i₀ out next floor i =
     length rows - i
 
 -- where the function begins

@@ -8,11 +8,11 @@ use Rattle.direct.proofs.children.append_children.Statement.{statement}
 use Rattle.direct.proofs.children.append_children.Tie as tie
 
 abbrev Inv-loop : tie.InvT-loop
-Inv-loop size level kind name count p from end want-kind want-name out₀ place w₀ next₀ out w next =
-    Walked size level (fits want-kind want-name kind name) p from end out₀ place out w next
+Inv-loop size level kind name count p from end want out₀ written w₀ next₀ out w next =
+    Walked size level (fits want kind name) p from end out₀ written out w next
 
 abbrev μ-loop : tie.MeasureT-loop
-μ-loop size level kind name count p from end want-kind want-name out₀ place w₀ next₀ out w next = end - w
+μ-loop size level kind name count p from end want out₀ written w₀ next₀ out w next = end - w
 
 -- the entry
 abbrev head : tie.At-loop Inv-loop μ-loop → tie.Start Inv-loop μ-loop

@@ -8,16 +8,16 @@ use lib.ListN.{length}
 use Rattle.tree.specs.Table.{at}
 use Rattle.tree.proofs.SoundLaws.{shape-fits}
 use Rattle.span.specs.Want.{fits}
-use Rattle.direct.proofs.ChildRowLaws.{Walked, walk-row, walk-start, walk-length, walk-place, walk-no, walk-yes}
+use Rattle.direct.proofs.ChildRowLaws.{Walked, walk-row, walk-start, walk-length, walk-room, walk-no, walk-yes}
 use Rattle.direct.proofs.children.append_leaves.Statement.{statement}
 use Rattle.direct.proofs.children.append_leaves.Tie as tie
 
 abbrev Inv-loop : tie.InvT-loop
-Inv-loop size level kind name count p row end want-kind want-name out₀ place w₀ next₀ out w next =
-    Walked size level (fits want-kind want-name kind name) p row end out₀ place out w next
+Inv-loop size level kind name count p row end want out₀ written w₀ next₀ out w next =
+    Walked size level (fits want kind name) p row end out₀ written out w next
 
 abbrev μ-loop : tie.MeasureT-loop
-μ-loop size level kind name count p row end want-kind want-name out₀ place w₀ next₀ out w next = end - w
+μ-loop size level kind name count p row end want out₀ written w₀ next₀ out w next = end - w
 
 -- the entry
 abbrev head : tie.At-loop Inv-loop μ-loop → tie.Start Inv-loop μ-loop
@@ -32,14 +32,14 @@ free : (c : tie.Then1 Inv-loop μ-loop) → (let s = c .before .before .before i
 free c =
     let t = c .before in
     let s = t .before .before in
-    walk-place (head s .pre .1) (s .loop .inv) (t .before .loop-test .taken)
+    walk-room (head s .pre .1) (s .loop .inv) (t .before .loop-test .taken)
     (sym (t .fits-row .ensures) ∙ c .if1 .taken)
 
 -- past row w, whether it fits or not
 past : (c : tie.Joined1 Inv-loop μ-loop) (r : ℕ) → (let s = c .before .before .before in let a = head s .args in
     r ≡ s .loop .w + at (a .size .now) (s .loop .w) + 1
-    → Walked (a .size .now) (a .level .now) (fits (a .want-kind) (a .want-name) (a .kind .now) (a .name .now)) (a .p)
-    (a .row) (a .end) (a .out .now) (a .place) (c .if1 .out) r (c .if1 .next))
+    → Walked (a .size .now) (a .level .now) (fits (a .want) (a .kind .now) (a .name .now)) (a .p)
+    (a .row) (a .end) (a .out .now) (a .written) (c .if1 .out) r (c .if1 .next))
 past c r e =
     let t = c .before in
     let s = t .before .before in
@@ -86,8 +86,8 @@ add-w c =
     let t = c .before .before .before in
     omega (arith, t .loop-test .taken)
 
-add-t23 : tie.Need-add-t23 Inv-loop μ-loop
-add-t23 c =
+add-t22 : tie.Need-add-t22 Inv-loop μ-loop
+add-t22 c =
     let j = c .before .before in
     let t = j .before .before in
     let h = head (t .before) .pre .1 in
@@ -144,7 +144,7 @@ append-leaves-spec =
     mul-below
     shared-slice-read-below
     add-w
-    add-t23
+    add-t22
     same-length
     returns
     loop-less

@@ -3,7 +3,7 @@
 use mathlib.Core.Path.{refl}
 use native.Mathlib.Omega.{arith}
 use borrow.Author.Needs.{needs}
-use Rattle.direct.proofs.EarlierLaws.{earlier-row, earlier-none, earlier-asks, earlier-done}
+use Rattle.direct.proofs.RisingLaws.{earlier-row, earlier-none, earlier-asks, earlier-done}
 use Rattle.direct.proofs.earlier.append_earlier.Statement.{statement}
 use Rattle.direct.proofs.earlier.append_earlier.Tie as tie
 

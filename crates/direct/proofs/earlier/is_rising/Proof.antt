@@ -1,5 +1,5 @@
--- `direct::earlier::is_rising` meets its contract. The loop's invariant: the parents of the contexts before place k do not
--- fall, and the last of them is not before any. Assumes nothing.
+-- `direct::earlier::is_rising` meets its contract. The loop's invariant: the parents of the contexts before number k do
+-- not fall, and the last of them is not before any. Assumes nothing.
 use Prim.Native.Nat.{ℕ, _+_, _-_, _<_, _≤_}
 use mathlib.Core.Path.{_≡_, ap}
 use mathlib.Core.Bool.{false≢true, true≢false}
@@ -13,20 +13,20 @@ use Rattle.direct.proofs.earlier.is_rising.Statement.{statement}
 use Rattle.direct.proofs.earlier.is_rising.Tie as tie
 
 abbrev Inv-loop : tie.InvT-loop
-Inv-loop axis up count rows last₀ k₀ last k =
+Inv-loop count up rows axis last₀ k₀ last k =
     (k ≤ length rows)
     × ((i : ℕ) → i < k → (j : ℕ) → j < i → at up (at rows j) ≤ at up (at rows i))
     × ((j : ℕ) → j < k → at up (at rows j) ≤ last)
     × (0 < last → (0 < k) × (last ≡ at up (at rows (k - 1))))
 
 abbrev μ-loop : tie.MeasureT-loop
-μ-loop axis up count rows last₀ k₀ last k = length rows - k
+μ-loop count up rows axis last₀ k₀ last k = length rows - k
 
 -- the entry
 abbrev head : tie.At-loop Inv-loop μ-loop → tie.Start Inv-loop μ-loop
 head s = s .before .before
 
--- the context at place k is a row in use
+-- context number k is a row in use
 inside : (c : tie.In-loop Inv-loop μ-loop) → at (head (c .before) .args .rows .now) (c .before .loop .k) < 4096
 inside c =
     let h = head (c .before) .pre in

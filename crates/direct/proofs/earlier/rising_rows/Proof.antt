@@ -5,16 +5,16 @@ use borrow.Author.Needs.{needs}
 use lib.ListN.{length}
 use Rattle.span.specs.Want.{fits}
 use Rattle.span.proofs.RangeLaws.{cover-length}
-use Rattle.direct.proofs.EarlierLaws.{Risen, rise-start, rise-asks, rise-next, rise-done}
+use Rattle.direct.proofs.RisingLaws.{Risen, rise-start, rise-asks, rise-next, rise-done}
 use Rattle.direct.proofs.earlier.rising_rows.Statement.{statement}
 use Rattle.direct.proofs.earlier.rising_rows.Tie as tie
 
 abbrev Inv-loop : tie.InvT-loop
-Inv-loop size level kind name up count rows want-kind want-name out₀ next₀ floor₀ i₀ out next floor i =
-    Risen level count (fits want-kind want-name kind name) rows out₀ out next floor i
+Inv-loop size level kind name count up rows want out₀ next₀ floor₀ i₀ out next floor i =
+    Risen level count (fits want kind name) rows out₀ out next floor i
 
 abbrev μ-loop : tie.MeasureT-loop
-μ-loop size level kind name up count rows want-kind want-name out₀ next₀ floor₀ i₀ out next floor i =
+μ-loop size level kind name count up rows want out₀ next₀ floor₀ i₀ out next floor i =
     length rows - i
 
 -- where the function begins

@@ -8,10 +8,10 @@ use Rattle.direct.proofs.path.write_path.Statement.{statement}
 use Rattle.direct.proofs.path.write_path.Tie as tie
 
 abbrev Inv-loop : tie.InvT-loop
-Inv-loop size level up count place n out₀ at₀ k₀ out at k = Down level count place out₀ out at k
+Inv-loop size level count up link n out₀ at₀ k₀ out at k = Down level count link out₀ out at k
 
 abbrev μ-loop : tie.MeasureT-loop
-μ-loop size level up count place n out₀ at₀ k₀ out at k = k
+μ-loop size level count up link n out₀ at₀ k₀ out at k = k
 
 loop-holds : tie.Need-loop-holds Inv-loop μ-loop
 loop-holds c = down-start (c .pre)

@@ -134,8 +134,8 @@ clear-column-requires-5 c κs =
     let s = at-clear4 (c .before .before .before) in
     (omega (arith, fits s), omega (arith, s .pre .sound .in-use .in-name))
 
-up-requires : tie.Need-up-requires
-up-requires c κs =
+after-deletion-requires : tie.Need-after-deletion-requires
+after-deletion-requires c κs =
     let s = at-clear5 (c .before .before) in
     omega (arith, fits s, s .pre .sound .in-use)
 
@@ -196,7 +196,7 @@ returns-2 c =
     (key₁ .close-column .ensures) (size₁ .close-column2 .ensures) (level₁ .close-column3 .ensures)
     (kind₁ .close-column4 .ensures) (name₁ .close-column5 .ensures)
     (key₂ .clear-column .ensures) (size₂ .clear-column2 .ensures) (level₂ .clear-column3 .ensures)
-    (kind₂ .clear-column4 .ensures) (name₂ .clear-column5 .ensures) (c .up .ensures)
+    (kind₂ .clear-column4 .ensures) (name₂ .clear-column5 .ensures) (c .after-deletion .ensures)
 
 pub delete-at-spec : {M : Type 1} → statement M
 delete-at-spec =
@@ -219,7 +219,7 @@ delete-at-spec =
     clear-column-requires-3
     clear-column-requires-4
     clear-column-requires-5
-    up-requires
+    after-deletion-requires
     same-length
     same-length-2
     same-length-3

@@ -98,8 +98,8 @@ open-column-requires-4 c κs =
     let h = fits (at-kind (c .before .before .before)) in
     (omega (arith, h .gap), (h .in-name, h .of-name))
 
-down-requires : tie.Need-down-requires
-down-requires c κs = fits (at-name (c .before .before)) .few
+after-insertion-requires : tie.Need-after-insertion-requires
+after-insertion-requires c κs = fits (at-name (c .before .before)) .few
 
 same-length : tie.Need-same-length
 same-length c = search needs
@@ -127,7 +127,7 @@ returns c =
     let s = at-raise high in
     insert-made (lent s) (s .args .row) (piece s) (s .pre) (high .raise .ensures) (key .open-column .ensures)
     (size .open-column2 .ensures) (level .open-column-raised .ensures) (kind .open-column3 .ensures)
-    (name .open-column4 .ensures) (c .down .ensures)
+    (name .open-column4 .ensures) (c .after-insertion .ensures)
 
 pub open-rows-spec : {M : Type 1} → statement M
 open-rows-spec =
@@ -146,7 +146,7 @@ open-rows-spec =
     open-column-raised-requires
     open-column-requires-3
     open-column-requires-4
-    down-requires
+    after-insertion-requires
     same-length
     same-length-2
     same-length-3

@@ -1,7 +1,7 @@
--- `marks::mark::children_of` meets its contract: the laws of the axis, over what `hop` leaves. Assumes nothing.
+-- `marks::mark::children_of` meets its contract: the laws of the axis, over what `add-children` leaves. Assumes nothing.
 use native.Mathlib.Omega.{arith}
 use borrow.Author.Needs.{needs}
-use Rattle.marks.proofs.TurnLaws.{turn-fits}
+use Rattle.marks.proofs.ContextLaws.{turn-fits}
 use Rattle.marks.proofs.ChildLaws.{children-asks, children-done}
 use Rattle.marks.proofs.mark.children_of.Statement.{statement}
 use Rattle.marks.proofs.mark.children_of.Tie as tie
@@ -12,36 +12,36 @@ mul-c c = search needs
 shared-slice-read-c : tie.Need-shared-slice-read-c
 shared-slice-read-c c = search needs
 
-add-hop : tie.Need-add-hop
-add-hop c =
+add-add-children : tie.Need-add-add-children
+add-add-children c =
     let t = c .before .before .before .before .pre in
     omega (arith, turn-fits t)
 
-mul-hop : tie.Need-mul-hop
-mul-hop c =
+mul-add-children : tie.Need-mul-add-children
+mul-add-children c =
     let t = c .before .before .before .before .pre in
     omega (arith, turn-fits t)
 
-shared-slice-read-hop : tie.Need-shared-slice-read-hop
-shared-slice-read-hop c =
+shared-slice-read-add-children : tie.Need-shared-slice-read-add-children
+shared-slice-read-add-children c =
     let t = c .before .before .before .before .before .pre in
     omega (arith, turn-fits t)
 
-add-hop-2 : tie.Need-add-hop-2
-add-hop-2 c =
+add-add-children-2 : tie.Need-add-add-children-2
+add-add-children-2 c =
     let t = c .before .before .before .before .before .pre in
     omega (arith, turn-fits t)
 
-add-hop-3 : tie.Need-add-hop-3
-add-hop-3 c =
+add-add-children-3 : tie.Need-add-add-children-3
+add-add-children-3 c =
     let t = c .before .before .before .before .before .pre in
     omega (arith, turn-fits t)
 
-hop-requires : tie.Need-hop-requires
-hop-requires c κs = children-asks (c .before .before .before .before .before .before .pre)
+add-children-requires : tie.Need-add-children-requires
+add-children-requires c κs = children-asks (c .before .before .before .before .before .before .pre)
 
 returns : tie.Need-returns
-returns c = children-done (c .before .before .before .before .before .before .before .pre) (c .hop .ensures)
+returns c = children-done (c .before .before .before .before .before .before .before .pre) (c .add-children .ensures)
 
 pub children-of-spec : {M : Type 1} → statement M
 children-of-spec =
@@ -49,10 +49,10 @@ children-of-spec =
     (tie.spec
     mul-c
     shared-slice-read-c
-    add-hop
-    mul-hop
-    shared-slice-read-hop
-    add-hop-2
-    add-hop-3
-    hop-requires
+    add-add-children
+    mul-add-children
+    shared-slice-read-add-children
+    add-add-children-2
+    add-add-children-3
+    add-children-requires
     returns)

@@ -1,8 +1,8 @@
--- `marks::mark::earlier_siblings_of` meets its contract: the laws of the axis, over what `hop` leaves.
+-- `marks::mark::earlier_siblings_of` meets its contract: the laws of the axis, over what `add-children` leaves.
 -- Assumes nothing.
 use native.Mathlib.Omega.{arith}
 use borrow.Author.Needs.{needs}
-use Rattle.marks.proofs.TurnLaws.{turn-row, turn-root, turn-parent, parent-fits}
+use Rattle.marks.proofs.ContextLaws.{turn-row, turn-root, turn-parent, parent-fits}
 use Rattle.marks.proofs.EarlierLaws.{earlier-asks, earlier-done, earlier-none}
 use Rattle.marks.proofs.mark.earlier_siblings_of.Statement.{statement}
 use Rattle.marks.proofs.mark.earlier_siblings_of.Tie as tie
@@ -31,21 +31,21 @@ returns c =
 sub-p : tie.Need-sub-p
 sub-p c = search needs
 
-add-hop : tie.Need-add-hop
-add-hop c =
+add-add-children : tie.Need-add-add-children
+add-add-children c =
     let h = c .before .before .before .before .before .before .pre in
     let t = h .0 in
     omega (arith, parent-fits t _ (turn-parent t (h .1) (c .if1 .left)))
 
-hop-requires : tie.Need-hop-requires
-hop-requires c κs =
+add-children-requires : tie.Need-add-children-requires
+add-children-requires c κs =
     let h = c .before .before .before .before .before .before .before .pre in
     earlier-asks (h .0) _ (turn-parent (h .0) (h .1) (c .before .if1 .left))
 
 returns-2 : tie.Need-returns-2
 returns-2 c =
     let h = c .before .before .before .before .before .before .before .before .pre in
-    earlier-done (h .0) _ (turn-parent (h .0) (h .1) (c .before .before .if1 .left)) (c .hop .ensures)
+    earlier-done (h .0) _ (turn-parent (h .0) (h .1) (c .before .before .if1 .left)) (c .add-children .ensures)
 
 pub earlier-siblings-of-spec : {M : Type 1} → statement M
 earlier-siblings-of-spec =
@@ -57,6 +57,6 @@ earlier-siblings-of-spec =
     element-copy-out-q
     returns
     sub-p
-    add-hop
-    hop-requires
+    add-add-children
+    add-children-requires
     returns-2)

@@ -1,7 +1,7 @@
--- `marks::mark::later_siblings_of` meets its contract: the laws of the axis, over what `hop` leaves. Assumes nothing.
+-- `marks::mark::later_siblings_of` meets its contract: the laws of the axis, over what `add-children` leaves. Assumes nothing.
 use native.Mathlib.Omega.{arith}
 use borrow.Author.Needs.{needs}
-use Rattle.marks.proofs.TurnLaws.{turn-row, turn-fits, turn-root, turn-parent, parent-fits}
+use Rattle.marks.proofs.ContextLaws.{turn-row, turn-fits, turn-root, turn-parent, parent-fits}
 use Rattle.marks.proofs.LaterLaws.{later-asks, later-done, later-none}
 use Rattle.marks.proofs.mark.later_siblings_of.Statement.{statement}
 use Rattle.marks.proofs.mark.later_siblings_of.Tie as tie
@@ -30,59 +30,59 @@ returns c =
 sub-p : tie.Need-sub-p
 sub-p c = search needs
 
-mul-hop : tie.Need-mul-hop
-mul-hop c =
+mul-add-children : tie.Need-mul-add-children
+mul-add-children c =
     let t = c .before .before .before .before .before .before .pre .0 in
     omega (arith, turn-fits t)
 
-shared-slice-read-hop : tie.Need-shared-slice-read-hop
-shared-slice-read-hop c =
+shared-slice-read-add-children : tie.Need-shared-slice-read-add-children
+shared-slice-read-add-children c =
     let t = c .before .before .before .before .before .before .before .pre .0 in
     omega (arith, turn-fits t)
 
-add-hop : tie.Need-add-hop
-add-hop c =
+add-add-children : tie.Need-add-add-children
+add-add-children c =
     let t = c .before .before .before .before .before .before .before .pre .0 in
     omega (arith, turn-fits t)
 
-add-hop-2 : tie.Need-add-hop-2
-add-hop-2 c =
+add-add-children-2 : tie.Need-add-add-children-2
+add-add-children-2 c =
     let t = c .before .before .before .before .before .before .before .pre .0 in
     omega (arith, turn-fits t)
 
-mul-hop-2 : tie.Need-mul-hop-2
-mul-hop-2 c =
+mul-add-children-2 : tie.Need-mul-add-children-2
+mul-add-children-2 c =
     let h = c .before .before .before .before .before .before .before .pre in
     let t = h .0 in
     omega (arith, parent-fits t _ (turn-parent t (h .1) (c .before .if1 .left)))
 
-shared-slice-read-hop-2 : tie.Need-shared-slice-read-hop-2
-shared-slice-read-hop-2 c =
+shared-slice-read-add-children-2 : tie.Need-shared-slice-read-add-children-2
+shared-slice-read-add-children-2 c =
     let h = c .before .before .before .before .before .before .before .before .pre in
     let t = h .0 in
     omega (arith, parent-fits t _ (turn-parent t (h .1) (c .before .before .if1 .left)))
 
-add-hop-3 : tie.Need-add-hop-3
-add-hop-3 c =
+add-add-children-3 : tie.Need-add-add-children-3
+add-add-children-3 c =
     let h = c .before .before .before .before .before .before .before .before .pre in
     let t = h .0 in
     omega (arith, parent-fits t _ (turn-parent t (h .1) (c .before .before .if1 .left)))
 
-add-hop-4 : tie.Need-add-hop-4
-add-hop-4 c =
+add-add-children-4 : tie.Need-add-add-children-4
+add-add-children-4 c =
     let h = c .before .before .before .before .before .before .before .before .pre in
     let t = h .0 in
     omega (arith, parent-fits t _ (turn-parent t (h .1) (c .before .before .if1 .left)))
 
-hop-requires : tie.Need-hop-requires
-hop-requires c κs =
+add-children-requires : tie.Need-add-children-requires
+add-children-requires c κs =
     let h = c .before .before .before .before .before .before .before .before .before .pre in
     later-asks (h .0) _ (turn-parent (h .0) (h .1) (c .before .before .before .if1 .left))
 
 returns-2 : tie.Need-returns-2
 returns-2 c =
     let h = c .before .before .before .before .before .before .before .before .before .before .pre in
-    later-done (h .0) _ (turn-parent (h .0) (h .1) (c .before .before .before .before .if1 .left)) (c .hop .ensures)
+    later-done (h .0) _ (turn-parent (h .0) (h .1) (c .before .before .before .before .if1 .left)) (c .add-children .ensures)
 
 pub later-siblings-of-spec : {M : Type 1} → statement M
 later-siblings-of-spec =
@@ -94,13 +94,13 @@ later-siblings-of-spec =
     element-copy-out-q
     returns
     sub-p
-    mul-hop
-    shared-slice-read-hop
-    add-hop
-    add-hop-2
-    mul-hop-2
-    shared-slice-read-hop-2
-    add-hop-3
-    add-hop-4
-    hop-requires
+    mul-add-children
+    shared-slice-read-add-children
+    add-add-children
+    add-add-children-2
+    mul-add-children-2
+    shared-slice-read-add-children-2
+    add-add-children-3
+    add-add-children-4
+    add-children-requires
     returns-2)

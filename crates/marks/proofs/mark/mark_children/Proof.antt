@@ -4,7 +4,7 @@ use Prim.Native.Nat.{_-_, _≤_}
 use native.Mathlib.Omega.{arith}
 use lib.ListN.{length, take}
 use Rattle.marks.specs.RowSet.{Marked}
-use Rattle.marks.proofs.TurnLaws.{marks-first, marks-turn, take-done}
+use Rattle.marks.proofs.ContextLaws.{marks-first, marks-turn, take-done}
 use Rattle.marks.proofs.mark.mark_children.Statement.{statement}
 use Rattle.marks.proofs.mark.mark_children.Tie as tie
 

@@ -5,16 +5,16 @@ use mathlib.Core.Path.{_≡_}
 use native.Mathlib.Omega.{arith}
 use lib.ListN.{length, drop}
 use Rattle.marks.specs.RowSet.{Marked}
-use Rattle.marks.proofs.TurnLaws.{marks-last, marks-turn, drop-done}
+use Rattle.marks.proofs.ContextLaws.{marks-last, marks-turn, drop-done}
 use Rattle.marks.proofs.mark.mark_earlier_siblings.Statement.{statement}
 use Rattle.marks.proofs.mark.mark_earlier_siblings.Tie as tie
 
 abbrev Inv-loop : tie.InvT-loop
-Inv-loop size level up count rows words₀ used₀ i₀ words used i =
+Inv-loop size level count up rows words₀ used₀ i₀ words used i =
     (i ≤ length rows) × Marked 11 level count (drop i rows) words used
 
 abbrev μ-loop : tie.MeasureT-loop
-μ-loop size level up count rows words₀ used₀ i₀ words used i = i
+μ-loop size level count up rows words₀ used₀ i₀ words used i = i
 
 loop-holds : tie.Need-loop-holds Inv-loop μ-loop
 loop-holds c = (omega arith, marks-last 11 (c .before .before .before .pre .0))

@@ -4,16 +4,16 @@ use Prim.Native.Nat.{_-_, _≤_}
 use native.Mathlib.Omega.{arith}
 use lib.ListN.{length, take}
 use Rattle.marks.specs.RowSet.{Marked}
-use Rattle.marks.proofs.TurnLaws.{marks-first, marks-turn, take-done}
+use Rattle.marks.proofs.ContextLaws.{marks-first, marks-turn, take-done}
 use Rattle.marks.proofs.mark.mark_parents.Statement.{statement}
 use Rattle.marks.proofs.mark.mark_parents.Tie as tie
 
 abbrev Inv-loop : tie.InvT-loop
-Inv-loop size level up count rows words₀ used₀ i₀ words used i =
+Inv-loop size level count up rows words₀ used₀ i₀ words used i =
     (i ≤ length rows) × Marked 5 level count (take i rows) words used
 
 abbrev μ-loop : tie.MeasureT-loop
-μ-loop size level up count rows words₀ used₀ i₀ words used i = length rows - i
+μ-loop size level count up rows words₀ used₀ i₀ words used i = length rows - i
 
 loop-holds : tie.Need-loop-holds Inv-loop μ-loop
 loop-holds c = (omega arith, marks-first 5 (c .before .before .before .pre .0))

@@ -2,7 +2,7 @@
 use native.Mathlib.Omega.{arith}
 use borrow.Author.Needs.{needs}
 use Rattle.tree.proofs.TreeLaws.{parent-below}
-use Rattle.marks.proofs.TurnLaws.{turn-row, turn-root, turn-parent}
+use Rattle.marks.proofs.ContextLaws.{turn-row, turn-root, turn-parent}
 use Rattle.marks.proofs.ParentLaws.{parent-none, parent-done}
 use Rattle.marks.proofs.mark.parent_of.Statement.{statement}
 use Rattle.marks.proofs.mark.parent_of.Tie as tie

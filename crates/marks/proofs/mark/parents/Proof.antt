@@ -4,7 +4,7 @@ use Prim.Native.Nat.{_-_, _<_}
 use native.Mathlib.Omega.{arith}
 use borrow.Author.Needs.{needs}
 use Rattle.tree.specs.Table.{at}
-use Rattle.marks.proofs.OpenLaws.{Opened, open-start, open-high, open-small, open-next, open-done}
+use Rattle.marks.proofs.ParentPassLaws.{Opened, open-start, open-high, open-small, open-next, open-done}
 use Rattle.marks.proofs.mark.parents.Statement.{statement}
 use Rattle.marks.proofs.mark.parents.Tie as tie
 

@@ -10,18 +10,18 @@ use lib.Count.{trailingZeros}
 use lib.ListN.{length}
 use Rattle.span.specs.Want.{fits}
 use Rattle.marks.proofs.BitLaws.{lowest-less}
-use Rattle.marks.proofs.LeftLaws.{left-high}
+use Rattle.marks.proofs.BitsLeftLaws.{left-high}
 use Rattle.marks.proofs.DrainLaws.{SetWalk, set-start, set-length, set-place, set-done}
 use Rattle.marks.proofs.DrainLaws.{set-asks, set-sum, set-next}
 use Rattle.marks.proofs.row_set.drain_rows.Statement.{statement}
 use Rattle.marks.proofs.row_set.drain_rows.Tie as tie
 
 abbrev Inv-loop : tie.InvT-loop
-Inv-loop kind name count want-kind want-name words₀ used out₀ left₀ at₀ words out left at =
-    SetWalk (fits want-kind want-name kind name) words₀ used out₀ words out left at
+Inv-loop kind name count want words₀ used out₀ left₀ at₀ words out left at =
+    SetWalk (fits want kind name) words₀ used out₀ words out left at
 
 abbrev μ-loop : tie.MeasureT-loop
-μ-loop kind name count want-kind want-name words₀ used out₀ left₀ at₀ words out left at = left
+μ-loop kind name count want words₀ used out₀ left₀ at₀ words out left at = left
 
 -- a word that is marked is one of the 64
 high : (c : tie.In-loop Inv-loop μ-loop) → trailingZeros 64 (c .before .loop .left) < length (c .before .loop .words)
@@ -32,8 +32,8 @@ whole : (s : tie.At-loop Inv-loop μ-loop)
     → length (s .loop .out) ≡ length (s .before .before .before .before .before .args .out .now)
 whole s = set-length (s .before .before .before .before .before .pre .1) (s .loop .inv)
 
-place : (s : tie.At-loop Inv-loop μ-loop) → s .loop .at ≤ length (s .loop .out)
-place s = set-place (s .before .before .before .before .before .pre .1) (s .loop .inv)
+written : (s : tie.At-loop Inv-loop μ-loop) → s .loop .at ≤ length (s .loop .out)
+written s = set-place (s .before .before .before .before .before .pre .1) (s .loop .inv)
 
 loop-holds : tie.Need-loop-holds Inv-loop μ-loop
 loop-holds c =
@@ -57,15 +57,15 @@ slice-write-words c = high (c .before)
 
 mul-part : tie.Need-mul-part Inv-loop μ-loop
 mul-part c =
-    let p = place (c .before .before) in
+    let p = written (c .before .before) in
     let w = whole (c .before .before) in
     omega arith
 
 sub-part : tie.Need-sub-part Inv-loop μ-loop
-sub-part c = place (c .before .before)
+sub-part c = written (c .before .before)
 
 part-part-start : tie.Need-part-part-start Inv-loop μ-loop
-part-part-start c = place (c .before .before)
+part-part-start c = written (c .before .before)
 
 part-part-end : tie.Need-part-part-end Inv-loop μ-loop
 part-part-end c = le-refl _

@@ -9,17 +9,17 @@ use lib.Count.{trailingZeros}
 use lib.ListN.{length}
 use Rattle.span.specs.Want.{fits}
 use Rattle.marks.proofs.BitLaws.{lowest-less}
-use Rattle.marks.proofs.LeftLaws.{left-high, left-set}
+use Rattle.marks.proofs.BitsLeftLaws.{left-high, left-set}
 use Rattle.marks.proofs.WordLaws.{WordWalk, word-start, word-done, word-length, word-place, word-no, word-yes}
 use Rattle.marks.proofs.row_set.drain_word.Statement.{statement}
 use Rattle.marks.proofs.row_set.drain_word.Tie as tie
 
 abbrev Inv-loop : tie.InvT-loop
-Inv-loop kind name base word want-kind want-name out₀ rest₀ at₀ out rest at =
-    WordWalk (fits want-kind want-name kind name) base word out₀ out rest at
+Inv-loop kind name base want word out₀ rest₀ at₀ out rest at =
+    WordWalk (fits want kind name) base word out₀ out rest at
 
 abbrev μ-loop : tie.MeasureT-loop
-μ-loop kind name base word want-kind want-name out₀ rest₀ at₀ out rest at = rest
+μ-loop kind name base want word out₀ rest₀ at₀ out rest at = rest
 
 -- the lowest bit is one of the 64
 high : (c : tie.In-loop Inv-loop μ-loop) → trailingZeros 64 (c .before .loop .rest) < 64
@@ -31,9 +31,9 @@ whole : (s : tie.At-loop Inv-loop μ-loop)
 whole s = word-length _ _ _ _ (s .loop .inv) (s .before .before .before .before .pre .room)
 
 -- at a row that fits there is room for it
-place : (c : tie.Then1 Inv-loop μ-loop)
+written : (c : tie.Then1 Inv-loop μ-loop)
     → c .before .before .before .loop .at < length (c .before .before .before .loop .out)
-place c =
+written c =
     let t = c .before in
     let s = t .before .before in
     let room = s .before .before .before .before .pre .room in
@@ -56,16 +56,16 @@ fits-row-requires c κs =
 
 mul-out : tie.Need-mul-out Inv-loop μ-loop
 mul-out c =
-    let p = place c in
+    let p = written c in
     let w = whole (c .before .before .before) in
     omega arith
 
 slice-write-out : tie.Need-slice-write-out Inv-loop μ-loop
-slice-write-out c = place c
+slice-write-out c = written c
 
 add-at : tie.Need-add-at Inv-loop μ-loop
 add-at c =
-    let p = place c in
+    let p = written c in
     let w = whole (c .before .before .before) in
     omega arith
 

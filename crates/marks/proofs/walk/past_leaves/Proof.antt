@@ -7,8 +7,8 @@ use borrow.Author.Needs.{needs}
 use Rattle.tree.specs.Table.{at}
 use Rattle.marks.specs.Mark.{Gathered}
 use Rattle.marks.proofs.RowSetLaws.{shifted-one}
-use Rattle.marks.proofs.HopLaws.{row-in-use}
-use Rattle.marks.proofs.WordChildLaws.{gathers-hop, gathered-next}
+use Rattle.marks.proofs.ChildWalkLaws.{row-in-use}
+use Rattle.marks.proofs.WordChildLaws.{gathers-inside, gathered-next}
 use Rattle.marks.proofs.walk.past_leaves.Statement.{statement}
 use Rattle.marks.proofs.walk.past_leaves.Tie as tie
 
@@ -43,7 +43,7 @@ add-t18 : tie.Need-add-t18 Inv-loop μ-loop
 add-t18 c =
     let s = c .before .before .before in
     let h = s .before .pre .0 in
-    omega (arith, gathers-hop h (s .loop .w) (c .before .before .loop-test .taken), h .shape .few)
+    omega (arith, gathers-inside h (s .loop .w) (c .before .before .loop-test .taken), h .shape .few)
 
 returns : tie.Need-returns Inv-loop μ-loop
 returns c =

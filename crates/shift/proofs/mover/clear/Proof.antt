@@ -2,7 +2,7 @@
 use native.Mathlib.Omega.{arith}
 use Prim.Native.Nat.{_≤_, _-_}
 use lib.ListN.{replicate}
-use Rattle.shift.proofs.MoveLaws.{Put, put-start, clear-turn, clear-end}
+use Rattle.shift.proofs.MoverLaws.{Put, put-start, clear-turn, clear-end}
 use Rattle.shift.proofs.mover.clear.Statement.{statement}
 use Rattle.shift.proofs.mover.clear.Tie as tie
 

@@ -1,6 +1,6 @@
 -- `shift::mover::clear_column` meets its contract. Assumes nothing.
 use native.Mathlib.Omega.{arith}
-use Rattle.shift.proofs.MoveLaws.{clear-column}
+use Rattle.shift.proofs.MoverLaws.{clear-column}
 use borrow.Author.Needs.{needs}
 use Rattle.shift.proofs.mover.clear_column.Statement.{statement}
 use Rattle.shift.proofs.mover.clear_column.Tie as tie

@@ -1,6 +1,6 @@
 -- `shift::mover::close_column` meets its contract. Assumes nothing.
 use native.Mathlib.Omega.{arith}
-use Rattle.shift.proofs.MoveLaws.{close-column}
+use Rattle.shift.proofs.MoverLaws.{close-column}
 use borrow.Author.Needs.{needs}
 use Rattle.shift.proofs.mover.close_column.Statement.{statement}
 use Rattle.shift.proofs.mover.close_column.Tie as tie

@@ -1,6 +1,6 @@
 -- `shift::mover::open_column` meets its contract. Assumes nothing.
 use native.Mathlib.Omega.{arith}
-use Rattle.shift.proofs.MoveLaws.{open-column}
+use Rattle.shift.proofs.MoverLaws.{open-column}
 use borrow.Author.Needs.{needs}
 use Rattle.shift.proofs.mover.open_column.Statement.{statement}
 use Rattle.shift.proofs.mover.open_column.Tie as tie

@@ -1,6 +1,6 @@
 -- `shift::mover::open_part` meets its contract. Assumes nothing.
 use native.Mathlib.Omega.{arith}
-use Rattle.shift.proofs.MoveLaws.{open-part}
+use Rattle.shift.proofs.MoverLaws.{open-part}
 use borrow.Author.Needs.{needs}
 use Rattle.shift.proofs.mover.open_part.Statement.{statement}
 use Rattle.shift.proofs.mover.open_part.Tie as tie

@@ -2,7 +2,7 @@
 use mathlib.Core.List.{map}
 use Prim.Native.Nat.{_+_}
 use native.Mathlib.Omega.{arith}
-use Rattle.shift.proofs.MoveLaws.{open-part}
+use Rattle.shift.proofs.MoverLaws.{open-part}
 use borrow.Author.Needs.{needs}
 use Rattle.shift.proofs.mover.open_part_raised.Statement.{statement}
 use Rattle.shift.proofs.mover.open_part_raised.Tie as tie

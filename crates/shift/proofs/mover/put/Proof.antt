@@ -3,7 +3,7 @@
 use mathlib.Core.Path.{refl}
 use native.Mathlib.Omega.{arith}
 use Prim.Native.Nat.{_≤_, _-_}
-use Rattle.shift.proofs.MoveLaws.{Put, put-start, put-turn, put-end}
+use Rattle.shift.proofs.MoverLaws.{Put, put-start, put-turn, put-end}
 use Rattle.shift.proofs.mover.put.Statement.{statement}
 use Rattle.shift.proofs.mover.put.Tie as tie
 

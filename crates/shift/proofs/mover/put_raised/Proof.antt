@@ -3,7 +3,7 @@
 use mathlib.Core.List.{map}
 use Prim.Native.Nat.{_+_, _-_, _≤_}
 use native.Mathlib.Omega.{arith}
-use Rattle.shift.proofs.MoveLaws.{Put, put-start, raised-turn, put-end}
+use Rattle.shift.proofs.MoverLaws.{Put, put-start, raised-turn, put-end}
 use borrow.Author.Needs.{needs}
 use Rattle.shift.proofs.mover.put_raised.Statement.{statement}
 use Rattle.shift.proofs.mover.put_raised.Tie as tie

@@ -2,7 +2,7 @@
 -- Assumes nothing.
 use native.Mathlib.Omega.{arith}
 use borrow.Author.Needs.{needs}
-use Rattle.shift.proofs.MoveLaws.{Down, down-start, down-turn, down-end}
+use Rattle.shift.proofs.MoverLaws.{Down, down-start, down-turn, down-end}
 use Rattle.shift.proofs.mover.shift_down.Statement.{statement}
 use Rattle.shift.proofs.mover.shift_down.Tie as tie
 

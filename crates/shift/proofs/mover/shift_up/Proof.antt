@@ -3,7 +3,7 @@
 use native.Mathlib.Omega.{arith}
 use Prim.Native.Nat.{_≤_, _-_}
 use lib.ListN.{drop}
-use Rattle.shift.proofs.MoveLaws.{Put, put-start, up-turn, put-end}
+use Rattle.shift.proofs.MoverLaws.{Put, put-start, up-turn, put-end}
 use Rattle.shift.proofs.mover.shift_up.Statement.{statement}
 use Rattle.shift.proofs.mover.shift_up.Tie as tie
 

@@ -5,12 +5,12 @@ use native.Mathlib.Omega.{arith}
 use borrow.Author.Needs.{needs}
 use lib.ListN.{length}
 use Rattle.tree.specs.Table.{at}
-use Rattle.span.proofs.SideLaws.{Hopped, hop-start, hop-next, hop-stop}
+use Rattle.span.proofs.SideLaws.{ChildrenAdded, hop-start, hop-next, hop-stop}
 use Rattle.span.proofs.ranges.next_open.Statement.{statement}
 use Rattle.span.proofs.ranges.next_open.Tie as tie
 
 abbrev Inv-loop : tie.InvT-loop
-Inv-loop size count w c v₀ v = Hopped size c w v
+Inv-loop size count w c v₀ v = ChildrenAdded size c w v
 
 abbrev μ-loop : tie.MeasureT-loop
 μ-loop size count w c v₀ v = c - v

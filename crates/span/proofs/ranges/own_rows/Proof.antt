@@ -11,11 +11,11 @@ use Rattle.span.proofs.ranges.own_rows.Statement.{statement}
 use Rattle.span.proofs.ranges.own_rows.Tie as tie
 
 abbrev Inv-loop : tie.InvT-loop
-Inv-loop level size kind name count rows want-kind want-name out₀ next₀ pos₀ i₀ out next pos i =
-    Turning 1 level count (fits want-kind want-name kind name) (λ c. c) rows out₀ out next pos i
+Inv-loop size level kind name count rows want out₀ next₀ pos₀ i₀ out next pos i =
+    Turning 1 level count (fits want kind name) (λ c. c) rows out₀ out next pos i
 
 abbrev μ-loop : tie.MeasureT-loop
-μ-loop level size kind name count rows want-kind want-name out₀ next₀ pos₀ i₀ out next pos i = length rows - i
+μ-loop size level kind name count rows want out₀ next₀ pos₀ i₀ out next pos i = length rows - i
 
 abbrev head : tie.At-loop Inv-loop μ-loop → tie.Start Inv-loop μ-loop
 head s = s .before .before .before .before .before .before .before

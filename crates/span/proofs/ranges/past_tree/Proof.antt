@@ -10,7 +10,7 @@ use borrow.Author.Needs.{needs}
 use lib.ListN.{length}
 use Rattle.tree.specs.Table.{at}
 use Rattle.tree.proofs.TreeLaws.{less?}
-use Rattle.span.specs.Range.{PlaceIn}
+use Rattle.span.specs.Range.{ContextIn}
 use Rattle.span.proofs.ranges.past_tree.Statement.{statement}
 use Rattle.span.proofs.ranges.past_tree.Tie as tie
 
@@ -21,7 +21,7 @@ more cs i end j h l k a b = ⊎-elim (λ (x : k < j). h k a x)
     (λ (x : j ≤ k). let z : k ≡ j = omega arith in let y = ap (at cs) z in omega arith) (less? k j)
 
 -- where the last is before it, all are
-all-before : (cs : List ℕ) (i end : ℕ) → PlaceIn cs i → at cs (length cs - 1) < end → (k : ℕ) → k < length cs
+all-before : (cs : List ℕ) (i end : ℕ) → ContextIn cs i → at cs (length cs - 1) < end → (k : ℕ) → k < length cs
     → at cs k < end
 all-before cs i end p h k l = ⊎-elim
     (λ (e : k ≡ length cs - 1). let z = ap (at cs) e in omega arith)

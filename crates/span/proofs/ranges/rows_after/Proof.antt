@@ -6,17 +6,17 @@ use borrow.Author.Needs.{needs}
 use lib.ListN.{length}
 use Rattle.span.specs.Want.{fits}
 use Rattle.span.proofs.RangeLaws.{cover-length}
-use Rattle.span.proofs.TurnLaws.{root-in, turn-less}
+use Rattle.span.proofs.TreeContextLaws.{root-in, turn-less}
 use Rattle.span.proofs.AfterLaws.{Turned, after-start, after-done, after-ends, after-asks, after-turn}
 use Rattle.span.proofs.ranges.rows_after.Statement.{statement}
 use Rattle.span.proofs.ranges.rows_after.Tie as tie
 
 abbrev Inv-loop : tie.InvT-loop
-Inv-loop level size kind name top count rows want-kind want-name out₀ next₀ i₀ out next i =
-    Turned size level count (fits want-kind want-name kind name) rows out₀ top out next i
+Inv-loop size level kind name count top rows want out₀ next₀ i₀ out next i =
+    Turned size level count (fits want kind name) rows out₀ top out next i
 
 abbrev μ-loop : tie.MeasureT-loop
-μ-loop level size kind name top count rows want-kind want-name out₀ next₀ i₀ out next i = length rows - i
+μ-loop size level kind name count top rows want out₀ next₀ i₀ out next i = length rows - i
 
 -- the entry
 abbrev head : tie.At-loop Inv-loop μ-loop → tie.Start Inv-loop μ-loop

@@ -7,25 +7,25 @@ use lib.ListN.{length}
 use Rattle.span.specs.Want.{fits}
 use Rattle.span.proofs.RangeLaws.{cover-length}
 use Rattle.span.proofs.SideLaws.{nests}
-use Rattle.span.proofs.TurnLaws.{root-in, turn-less}
+use Rattle.span.proofs.TreeContextLaws.{root-in, turn-less}
 use Rattle.span.proofs.BeforeLaws.{Behind, Within, before-start, before-tree, last-in, before-asks, before-next}
 use Rattle.span.proofs.BeforeLaws.{before-turn, before-done}
 use Rattle.span.proofs.ranges.rows_before.Statement.{statement}
 use Rattle.span.proofs.ranges.rows_before.Tie as tie
 
 abbrev Inv-loop2 : tie.InvT-loop2
-Inv-loop2 level size kind name top count rows want-kind want-name out₀ next₀ i first r j c w₀ out next w =
-    Within level count (fits want-kind want-name kind name) rows out₀ next₀ r c out next w
+Inv-loop2 size level kind name count top rows want out₀ next₀ i first r j c w₀ out next w =
+    Within level count (fits want kind name) rows out₀ next₀ r c out next w
 
 abbrev μ-loop2 : tie.MeasureT-loop2
-μ-loop2 level size kind name top count rows want-kind want-name out₀ next₀ i first r j c w₀ out next w = c - w
+μ-loop2 size level kind name count top rows want out₀ next₀ i first r j c w₀ out next w = c - w
 
 abbrev Inv-loop : tie.InvT-loop
-Inv-loop level size kind name top count rows want-kind want-name out₀ next₀ i₀ out next i =
-    Behind level count (fits want-kind want-name kind name) rows out₀ top out next i
+Inv-loop size level kind name count top rows want out₀ next₀ i₀ out next i =
+    Behind level count (fits want kind name) rows out₀ top out next i
 
 abbrev μ-loop : tie.MeasureT-loop
-μ-loop level size kind name top count rows want-kind want-name out₀ next₀ i₀ out next i = length rows - i
+μ-loop size level kind name count top rows want out₀ next₀ i₀ out next i = length rows - i
 
 -- the entry
 abbrev head : tie.At-loop Inv-loop2 μ-loop2 Inv-loop μ-loop → tie.Start Inv-loop2 μ-loop2 Inv-loop μ-loop

@@ -13,11 +13,11 @@ use Rattle.span.proofs.ranges.rows_below.Statement.{statement}
 use Rattle.span.proofs.ranges.rows_below.Tie as tie
 
 abbrev Inv-loop : tie.InvT-loop
-Inv-loop first level size kind name count rows want-kind want-name out₀ next₀ pos₀ i₀ out next pos i =
-    Turning (4 - first) level count (fits want-kind want-name kind name) (λ c. c + at size c) rows out₀ out next pos i
+Inv-loop size level kind name count rows first want out₀ next₀ pos₀ i₀ out next pos i =
+    Turning (4 - first) level count (fits want kind name) (λ c. c + at size c) rows out₀ out next pos i
 
 abbrev μ-loop : tie.MeasureT-loop
-μ-loop first level size kind name count rows want-kind want-name out₀ next₀ pos₀ i₀ out next pos i =
+μ-loop size level kind name count rows first want out₀ next₀ pos₀ i₀ out next pos i =
     length rows - i
 
 abbrev head : tie.At-loop Inv-loop μ-loop → tie.Start Inv-loop μ-loop

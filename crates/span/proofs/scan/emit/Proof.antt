@@ -39,20 +39,20 @@ part-scan-named-end-2 c = search needs
 
 scan-named-requires : tie.Need-scan-named-requires
 scan-named-requires c κs =
-    let s = c .before .before .before .before .before .before .before in
+    let s = c .before .before .before .before .before .before .before .before in
     let a = s .args in
     let p = part-length (a .kind .now) (a .from) (a .to) (s .pre .in-kind) in
     let q = part-length (a .name .now) (a .from) (a .to) (s .pre .in-name) in
-    (omega arith, range-asks (s .pre) p (fits-part _ _ _ _ _ _) (low s))
+    (omega arith, range-asks (s .pre) p (fits-part _ _ _ _ _) (low s))
 
 same-length : tie.Need-same-length
 same-length c = search needs
 
 returns : tie.Need-returns
 returns c =
-    let s = c .before .before .before .before .before .before .before .before .before .before in
+    let s = c .before .before .before .before .before .before .before .before .before .before .before in
     let a = s .args in
-    range-gives (s .pre) (part-length (a .kind .now) (a .from) (a .to) (s .pre .in-kind)) (fits-part _ _ _ _ _ _)
+    range-gives (s .pre) (part-length (a .kind .now) (a .from) (a .to) (s .pre .in-kind)) (fits-part _ _ _ _ _)
     (c .before .before .scan-named .ensures)
 
 mul-scan-kind : tie.Need-mul-scan-kind
@@ -69,22 +69,22 @@ part-scan-kind-end c = search needs
 
 scan-kind-requires : tie.Need-scan-kind-requires
 scan-kind-requires c κs =
-    let s = c .before .before .before .before .before .before .before in
+    let s = c .before .before .before .before .before .before .before .before .before in
     let a = s .args in
     let t = c .before .before in
     range-asks (s .pre) (part-length (a .kind .now) (a .from) (a .to) (s .pre .in-kind))
-    (λ i l. fits-part-kind _ _ _ _ _ _ i l (t .if2 .taken) (t .before .if1 .left)) (low s)
+    (λ i l. fits-part-kind _ _ _ _ _ i l (t .if2 .taken) (t .before .before .if1 .left)) (low s)
 
 same-length-2 : tie.Need-same-length-2
 same-length-2 c = search needs
 
 returns-2 : tie.Need-returns-2
 returns-2 c =
-    let s = c .before .before .before .before .before .before .before .before .before .before in
+    let s = c .before .before .before .before .before .before .before .before .before .before .before .before in
     let a = s .args in
     let t = c .before .before .before .before .before in
     range-gives (s .pre) (part-length (a .kind .now) (a .from) (a .to) (s .pre .in-kind))
-    (λ i l. fits-part-kind _ _ _ _ _ _ i l (t .if2 .taken) (t .before .if1 .left))
+    (λ i l. fits-part-kind _ _ _ _ _ i l (t .if2 .taken) (t .before .before .if1 .left))
     (c .before .before .scan-kind .ensures)
 
 sub-number-rows : tie.Need-sub-number-rows
@@ -92,18 +92,18 @@ sub-number-rows c = search needs
 
 number-rows-requires : tie.Need-number-rows-requires
 number-rows-requires c κs =
-    let s = c .before .before .before .before .before .before in
+    let s = c .before .before .before .before .before .before .before .before in
     let t = c .before in
-    range-asks (s .pre) refl (λ i l. fits-any _ _ _ _ _ (t .if2 .left) (t .before .if1 .left)) (low s)
+    range-asks (s .pre) refl (λ i l. fits-any _ _ _ _ (t .if2 .left) (t .before .before .if1 .left)) (low s)
 
 same-length-3 : tie.Need-same-length-3
 same-length-3 c = search needs
 
 returns-3 : tie.Need-returns-3
 returns-3 c =
-    let s = c .before .before .before .before .before .before .before .before .before in
+    let s = c .before .before .before .before .before .before .before .before .before .before .before in
     let t = c .before .before .before .before in
-    range-gives (s .pre) refl (λ i l. fits-any _ _ _ _ _ (t .if2 .left) (t .before .if1 .left))
+    range-gives (s .pre) refl (λ i l. fits-any _ _ _ _ (t .if2 .left) (t .before .before .if1 .left))
     (c .before .before .number-rows .ensures)
 
 pub emit-spec : {M : Type 1} → statement M

@@ -2,7 +2,7 @@
 -- Assumes nothing.
 use mathlib.Core.Path.{sym, _∙_}
 use borrow.Author.Needs.{needs}
-use Rattle.span.proofs.ScanLaws.{one-none, one-no, one-place, one-yes}
+use Rattle.span.proofs.ScanLaws.{one-none, one-no, one-room, one-yes}
 use Rattle.span.proofs.scan.emit_one.Statement.{statement}
 use Rattle.span.proofs.scan.emit_one.Tie as tie
 
@@ -21,7 +21,7 @@ mul-out c = search needs
 slice-write-out : tie.Need-slice-write-out
 slice-write-out c =
     let t = c .before in
-    one-place (start t .pre .1) (t .before .if1 .left) (start t .pre .0) (sym (t .fits-row .ensures) ∙ c .if2 .taken)
+    one-room (start t .pre .1) (t .before .if1 .left) (start t .pre .0) (sym (t .fits-row .ensures) ∙ c .if2 .taken)
 
 add-result : tie.Need-add-result
 add-result c = search needs

@@ -11,10 +11,10 @@ use Rattle.span.proofs.scan.number_rows.Statement.{statement}
 use Rattle.span.proofs.scan.number_rows.Tie as tie
 
 abbrev Inv-loop : tie.InvT-loop
-Inv-loop from count out₀ place next₀ i₀ out next i = Scanning from (λ k. true) count out₀ place out next i
+Inv-loop from count out₀ written next₀ i₀ out next i = Scanning from (λ k. true) count out₀ written out next i
 
 abbrev μ-loop : tie.MeasureT-loop
-μ-loop from count out₀ place next₀ i₀ out next i = count - i
+μ-loop from count out₀ written next₀ i₀ out next i = count - i
 
 loop-holds : tie.Need-loop-holds Inv-loop μ-loop
 loop-holds c = scan-start

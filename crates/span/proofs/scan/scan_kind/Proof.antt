@@ -14,11 +14,11 @@ use Rattle.span.proofs.scan.scan_kind.Statement.{statement}
 use Rattle.span.proofs.scan.scan_kind.Tie as tie
 
 abbrev Inv-loop : tie.InvT-loop
-Inv-loop kind from want-kind out₀ place next₀ i₀ out next i =
-    Scanning from (λ k. eqb (at kind k) want-kind) (length kind) out₀ place out next i
+Inv-loop kind from want-kind out₀ written next₀ i₀ out next i =
+    Scanning from (λ k. eqb (at kind k) want-kind) (length kind) out₀ written out next i
 
 abbrev μ-loop : tie.MeasureT-loop
-μ-loop kind from want-kind out₀ place next₀ i₀ out next i = length kind - i
+μ-loop kind from want-kind out₀ written next₀ i₀ out next i = length kind - i
 
 loop-holds : tie.Need-loop-holds Inv-loop μ-loop
 loop-holds c = scan-start

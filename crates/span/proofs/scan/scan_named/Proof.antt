@@ -12,11 +12,11 @@ use Rattle.span.proofs.scan.scan_named.Statement.{statement}
 use Rattle.span.proofs.scan.scan_named.Tie as tie
 
 abbrev Inv-loop : tie.InvT-loop
-Inv-loop kind name from want-kind want-name out₀ place next₀ i₀ out next i =
-    Scanning from (fits want-kind want-name kind name) (length kind) out₀ place out next i
+Inv-loop kind name from want out₀ written next₀ i₀ out next i =
+    Scanning from (fits want kind name) (length kind) out₀ written out next i
 
 abbrev μ-loop : tie.MeasureT-loop
-μ-loop kind name from want-kind want-name out₀ place next₀ i₀ out next i = length kind - i
+μ-loop kind name from want out₀ written next₀ i₀ out next i = length kind - i
 
 abbrev head : tie.At-loop Inv-loop μ-loop → tie.Start Inv-loop μ-loop
 head s = s .before .before .before .before

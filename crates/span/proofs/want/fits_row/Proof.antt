@@ -24,26 +24,26 @@ shared-slice-read-result : tie.Need-shared-slice-read-result
 shared-slice-read-result c = search needs
 
 -- the flag is the first half of the test
-first : (c : tie.Joined1) → (let a = c .before .args in
-    c .if1 .if2 ≡ kindFits (a .want-kind) (a .want-name) (a .kind .now) (a .name .now) (a .w))
+first : (c : tie.Joined1) → (let a = c .before .before .args in
+    c .if1 .if2 ≡ kindFits (a .want) (a .kind .now) (a .name .now) (a .w))
 first c =
-    let a = c .before .args in
-    let half : Bool = eqb (at (a .kind .now) (a .w)) (a .want-kind) in
+    let a = c .before .before .args in
+    let half : Bool = eqb (at (a .kind .now) (a .w)) (a .want .kind) in
     ⊎-elim
     (λ t. t .1 ∙ eq-eqb _ _ (t .0 .taken) ∙ sym (ap (λ (b : Bool). b || half) (eq-eqb _ _ (t .0 .taken))))
-    (λ t. t .2 ∙ sym (ap (λ (b : Bool). b || half) (ne-eqb _ _ (t .0 .left))))
+    (λ t. t .3 ∙ sym (ap (λ (b : Bool). b || half) (ne-eqb _ _ (t .0 .left))))
     (c .if1 .came)
 
 returns : tie.Need-returns
-returns c = sym (fits-free _ _ _ _ _ (sym (first (c .before .before)) ∙ c .before .if2 .taken) (c .if3 .taken))
+returns c = sym (fits-free _ _ _ _ (sym (first (c .before .before .before)) ∙ c .before .before .if2 .taken) (c .if3 .taken))
 
 returns-2 : tie.Need-returns-2
 returns-2 c =
-    let t = c .before .before in
-    sym (fits-same _ _ _ _ _ (sym (first (t .before)) ∙ t .if2 .taken) (c .before .if3 .left))
+    let t = c .before .before .before .before in
+    sym (fits-same _ _ _ _ (sym (first (t .before)) ∙ t .if2 .taken) (c .before .before .if3 .left))
 
 returns-3 : tie.Need-returns-3
-returns-3 c = c .if2 .left ∙ sym (fits-not _ _ _ _ _ (sym (first (c .before)) ∙ c .if2 .left))
+returns-3 c = c .if2 .left ∙ sym (fits-not _ _ _ _ (sym (first (c .before)) ∙ c .if2 .left))
 
 pub fits-row-spec : {M : Type 1} → statement M
 fits-row-spec =

@@ -1,9 +1,8 @@
--- `step::roles::count_all` meets its contract. The lines of the roles before place i are counted. Assumes nothing.
+-- `step::roles::count_all` meets its contract. The lines of the roles before number i are counted. Assumes nothing.
 use Prim.Native.Nat.{ℕ, _-_}
 use native.Mathlib.Omega.{arith}
 use lib.ListN.{length, replicate, length-replicate}
 use Rattle.tree.specs.Table.{tableOf}
-use Rattle.tree.specs.Step.{askOf}
 use Rattle.marks.proofs.RowSetLaws.{blank-zeros}
 use Rattle.step.proofs.CountedLaws.{Counted, pairs-fit, counted-none, counted-asks}
 use Rattle.step.proofs.CountedLaws.{counted-small, counted-more, counted-done}
@@ -12,17 +11,17 @@ use Rattle.step.proofs.roles.count_all.Statement.{statement}
 use Rattle.step.proofs.roles.count_all.Tie as tie
 
 abbrev Inv-loop : tie.InvT-loop
-Inv-loop key size level kind name count up role row axis test test-name want-kind words₀ scratch₀ total₀ i₀
+Inv-loop key size level kind name count up role row ask want words₀ scratch₀ total₀ i₀
     words scratch total i =
-    Counted (tableOf key size level kind name count) (askOf axis test test-name) role row words scratch total i
+    Counted (tableOf key size level kind name count) ask role row words scratch total i
 
 abbrev μ-loop : tie.MeasureT-loop
-μ-loop key size level kind name count up role row axis test test-name want-kind words₀ scratch₀ total₀ i₀
+μ-loop key size level kind name count up role row ask want words₀ scratch₀ total₀ i₀
     words scratch total i =
     length role - i
 
-wanted-kind-requires : tie.Need-wanted-kind-requires Inv-loop μ-loop
-wanted-kind-requires c κs = search needs
+want-of-requires : tie.Need-want-of-requires Inv-loop μ-loop
+want-of-requires c κs = search needs
 
 loop-holds : tie.Need-loop-holds Inv-loop μ-loop
 loop-holds c =
@@ -54,7 +53,7 @@ counted-role-requires c κs =
     let turn = c .before .before .before in
     let head = turn .before .before in
     let start = head .before .before .before .before .before .before .before .before .before in
-    rw (head .before .wanted-kind .ensures)
+    rw (head .before .want-of .ensures)
     (counted-asks _ _ _ _ _ (start .pre) _ (head .loop .inv) (turn .run-end .ensures))
 
 add-total : tie.Need-add-total Inv-loop μ-loop
@@ -62,7 +61,7 @@ add-total c =
     let turn = c .before .before .before .before .before in
     let head = turn .before .before in
     let start = head .before .before .before .before .before .before .before .before .before in
-    let done = rw (head .before .wanted-kind .ensures) at (c .before .counted-role .ensures) in
+    let done = rw (head .before .want-of .ensures) at (c .before .counted-role .ensures) in
     let small = counted-small _ _ _ _ _ (start .pre) (head .loop .inv) (turn .run-end .ensures) done in
     omega (arith, head .loop .inv .small, head .loop .inv .within, pairs-fit _ _ _ _ _ (start .pre) .few)
 
@@ -76,7 +75,7 @@ loop-again c =
     let turn = c .before .before .before .before .before in
     let head = turn .before .before in
     let start = head .before .before .before .before .before .before .before .before .before in
-    let done = rw (head .before .wanted-kind .ensures) at (c .before .counted-role .ensures) in
+    let done = rw (head .before .want-of .ensures) at (c .before .counted-role .ensures) in
     counted-more _ _ _ _ _ (start .pre) (head .loop .inv) (turn .run-end .ensures) done
 
 returns : tie.Need-returns Inv-loop μ-loop
@@ -90,7 +89,7 @@ count-all-spec =
     (tie.spec
     Inv-loop
     μ-loop
-    wanted-kind-requires
+    want-of-requires
     loop-holds
     run-end-requires
     mul-counted-role

@@ -1,10 +1,9 @@
--- `step::roles::write_all` meets its contract. The lines of the roles before place i stand in the result columns, and
+-- `step::roles::write_all` meets its contract. The lines of the roles before number i stand in the result columns, and
 -- their kept pairs are counted. Assumes nothing.
 use Prim.Native.Nat.{ℕ, _-_}
 use native.Mathlib.Omega.{arith}
 use lib.ListN.{length, replicate}
 use Rattle.tree.specs.Table.{tableOf}
-use Rattle.tree.specs.Step.{askOf}
 use Rattle.tree.proofs.SoundLaws.{sound-shape}
 use Rattle.marks.proofs.RowSetLaws.{blank-zeros}
 use Rattle.step.proofs.CountedLaws.{pairs-fit}
@@ -17,25 +16,25 @@ use Rattle.step.proofs.roles.write_all.Statement.{statement}
 use Rattle.step.proofs.roles.write_all.Tie as tie
 
 abbrev Inv-loop : tie.InvT-loop
-Inv-loop key size level kind name count up role row axis test test-name out-role₀ out-row₀ want-kind words₀ kept₀ m₀ i₀
+Inv-loop key size level kind name count up role row ask out-role₀ out-row₀ want words₀ kept₀ m₀ i₀
     out-role out-row words kept m i =
-    Written (tableOf key size level kind name count) (askOf axis test test-name) role row
+    Written (tableOf key size level kind name count) ask role row
     out-role₀ out-row₀ words out-role out-row m i
-    × Keeping axis level role row kept i
+    × Keeping (ask .axis) level role row kept i
 
 abbrev μ-loop : tie.MeasureT-loop
-μ-loop key size level kind name count up role row axis test test-name out-role₀ out-row₀ want-kind words₀ kept₀ m₀ i₀
+μ-loop key size level kind name count up role row ask out-role₀ out-row₀ want words₀ kept₀ m₀ i₀
     out-role out-row words kept m i =
     length role - i
 
-wanted-kind-requires : tie.Need-wanted-kind-requires Inv-loop μ-loop
-wanted-kind-requires c κs = search needs
+want-of-requires : tie.Need-want-of-requires Inv-loop μ-loop
+want-of-requires c κs = search needs
 
 loop-holds : tie.Need-loop-holds Inv-loop μ-loop
 loop-holds c =
     let pre = c .before .before .before .before .before .before .before .before .before .before .pre in (
       written-none _ _ _ _ _ _ _ (pre .0) (pre .1) (replicate {A = ℕ} 64 0) blank-zeros,
-      keeping-none _ _ _ _ _ _ (sound-shape _ (pre .0 .sound)) (pairs-fit _ _ _ _ _ (pre .0)),
+      keeping-none _ _ _ _ _ _ (sound-shape _ (pre .0 .call .sound)) (pairs-fit _ _ _ _ _ (pre .0)),
     )
 
 run-end-requires : tie.Need-run-end-requires Inv-loop μ-loop
@@ -61,7 +60,7 @@ kept-of-requires c κs =
     let turn = c .before in
     let head = turn .before .before in
     let start = head .before .before .before .before .before .before .before .before .before .before .before in (
-      keeping-asks (start .args .axis) _ _ _ _ _ (sound-shape _ (start .pre .0 .sound))
+      keeping-asks (start .args .ask .axis) _ _ _ _ _ (sound-shape _ (start .pre .0 .call .sound))
           (pairs-fit _ _ _ _ _ (start .pre .0)) _ _ (turn .run-end .ensures),
       start .pre .0 .links .roots,
     )
@@ -77,7 +76,7 @@ add-kept c =
       turn .run-end .ensures .within,
       turn .run-end .ensures .after,
       c .kept-of .ensures,
-      run-most (start .args .axis) _ (start .args .level .now) _ _ _ (sound-shape _ (start .pre .0 .sound))
+      run-most (start .args .ask .axis) _ (start .args .level .now) _ _ _ (sound-shape _ (start .pre .0 .call .sound))
           (pairs-fit _ _ _ _ _ (start .pre .0)) _ _ (turn .run-end .ensures),
       pairs-fit _ _ _ _ _ (start .pre .0) .few,
     )
@@ -133,7 +132,7 @@ written-role-requires c κs =
     let turn = c .before .before .before .before .before in
     let head = turn .before .before in
     let start = head .before .before .before .before .before .before .before .before .before .before .before in
-    rw (head .before .wanted-kind .ensures)
+    rw (head .before .want-of .ensures)
     (written-asks _ _ _ _ _ _ _ (start .pre .0) (start .pre .1) (head .loop .inv .0) (turn .run-end .ensures))
 
 mul-fill : tie.Need-mul-fill Inv-loop μ-loop
@@ -181,7 +180,7 @@ fill-requires c κs =
     let turn = c .before .before .before .before .before .before .before .before .before .before in
     let head = turn .before .before in
     let start = head .before .before .before .before .before .before .before .before .before .before .before in
-    let done = rw (head .before .wanted-kind .ensures) at (c .before .before .before .before .written-role .ensures) in
+    let done = rw (head .before .want-of .ensures) at (c .before .before .before .before .written-role .ensures) in
     written-room _ _ _ _ _ _ _ (start .pre .0) (start .pre .1) (head .loop .inv .0) (turn .run-end .ensures) done
 
 add-m : tie.Need-add-m Inv-loop μ-loop
@@ -190,7 +189,7 @@ add-m c =
     let turn = ran .before .before .before .before .before .before in
     let head = turn .before .before in
     let start = head .before .before .before .before .before .before .before .before .before .before .before in
-    let done = rw (head .before .wanted-kind .ensures) at (ran .written-role .ensures) in
+    let done = rw (head .before .want-of .ensures) at (ran .written-role .ensures) in
     omega (
       arith,
       written-step _ _ _ _ _ _ _ (start .pre .0) (start .pre .1) (head .loop .inv .0) (turn .run-end .ensures) done,
@@ -211,10 +210,10 @@ loop-again c =
     let turn = ran .before .before .before .before .before .before in
     let head = turn .before .before in
     let start = head .before .before .before .before .before .before .before .before .before .before .before in
-    let done = rw (head .before .wanted-kind .ensures) at (ran .written-role .ensures) in (
+    let done = rw (head .before .want-of .ensures) at (ran .written-role .ensures) in (
       written-more _ _ _ _ _ _ _ (start .pre .0) (start .pre .1) (head .loop .inv .0) (turn .run-end .ensures) done
           (c .before .before .fill .ensures),
-      keeping-more _ _ _ _ _ _ (sound-shape _ (start .pre .0 .sound)) (pairs-fit _ _ _ _ _ (start .pre .0))
+      keeping-more _ _ _ _ _ _ (sound-shape _ (start .pre .0 .call .sound)) (pairs-fit _ _ _ _ _ (start .pre .0))
           (head .loop .inv .1) (turn .run-end .ensures)
           (ran .before .before .before .before .kept-of .ensures),
     )
@@ -236,7 +235,7 @@ returns c =
     let head = c .before in
     let pre = head .before .before .before .before .before .before .before .before .before .before .before .pre in (
       written-done _ _ _ _ _ _ _ (pre .0) (pre .1) (c .before .loop .inv .0) (c .loop-test .left),
-      keeping-done _ _ _ _ _ _ (sound-shape _ (pre .0 .sound)) (pairs-fit _ _ _ _ _ (pre .0))
+      keeping-done _ _ _ _ _ _ (sound-shape _ (pre .0 .call .sound)) (pairs-fit _ _ _ _ _ (pre .0))
           (c .before .loop .inv .1) (c .loop-test .left),
     )
 
@@ -246,7 +245,7 @@ write-all-spec =
     (tie.spec
     Inv-loop
     μ-loop
-    wanted-kind-requires
+    want-of-requires
     loop-holds
     run-end-requires
     mul-kept-of

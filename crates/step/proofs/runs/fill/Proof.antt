@@ -4,7 +4,7 @@ use mathlib.Core.Path.{_≡_, refl}
 use native.Mathlib.Nat.{le-antisymm}
 use native.Mathlib.Omega.{arith}
 use lib.ListN.{length, replicate, length-set, length-replicate, replicate-append-replicate}
-use Rattle.span.specs.Reach.{Wrote}
+use Rattle.span.specs.OneRole.{Wrote}
 use Rattle.span.proofs.WroteLaws.{wrote-as, wrote-none, wrote-more}
 use borrow.Author.Needs.{needs}
 use Rattle.step.proofs.runs.fill.Statement.{statement}

@@ -13,10 +13,10 @@ use Rattle.table.proofs.pairs.first_outside.Statement.{statement}
 use Rattle.table.proofs.pairs.first_outside.Tie as tie
 
 abbrev Inv-loop : tie.InvT-loop
-Inv-loop row count i₀ i = (i ≤ length row) × ((j : ℕ) → j < i → not (ltb (at row j) count) ≡ false)
+Inv-loop count row i₀ i = (i ≤ length row) × ((j : ℕ) → j < i → not (ltb (at row j) count) ≡ false)
 
 abbrev μ-loop : tie.MeasureT-loop
-μ-loop row count i₀ i = length row - i
+μ-loop count row i₀ i = length row - i
 
 loop-holds : tie.Need-loop-holds Inv-loop μ-loop
 loop-holds c = (search needs, below-none _)

@@ -14,10 +14,10 @@ use Rattle.table.proofs.pairs.leaves_somewhere.Statement.{statement}
 use Rattle.table.proofs.pairs.leaves_somewhere.Tie as tie
 
 abbrev Inv-loop : tie.InvT-loop
-Inv-loop row count outside₀ i₀ outside i = (i ≤ length row) × (outside ≡ false → (k : ℕ) → k < i → at row k < count)
+Inv-loop count row outside₀ i₀ outside i = (i ≤ length row) × (outside ≡ false → (k : ℕ) → k < i → at row k < count)
 
 abbrev μ-loop : tie.MeasureT-loop
-μ-loop row count outside₀ i₀ outside i = length row - i
+μ-loop count row outside₀ i₀ outside i = length row - i
 
 loop-holds : tie.Need-loop-holds Inv-loop μ-loop
 loop-holds c = (search needs, λ e. below-none _)

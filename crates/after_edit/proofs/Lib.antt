@@ -1,0 +1,9 @@
+pub mod ActLaws
+pub mod FoundAgain
+pub mod GoneLaws
+pub mod SpareLaws
+pub mod PlantedLaws
+pub mod InTurnLaws
+pub mod InUseLaws
+pub mod EitherOrder
+pub mod FarmPair

@@ -1,0 +1,5 @@
+pub mod Act
+pub mod Independent
+pub mod Survives
+pub mod Spare
+pub mod Planted

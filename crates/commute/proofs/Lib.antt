@@ -1,9 +1,0 @@
-pub mod ActLaws
-pub mod FoundAgain
-pub mod GoneLaws
-pub mod SpareLaws
-pub mod PlantedLaws
-pub mod TurnLaws
-pub mod InUseLaws
-pub mod Demand3
-pub mod FarmPair

@@ -1,3 +1,0 @@
-// What an accepted edit leaves, in plain words (specs/Again, Planted, Spare), and edits that may come in either order
-// (specs/Independent, proofs/Demand3): theorems about the outcomes that the contracts of the three edits name, so no
-// code.
