@@ -30,6 +30,11 @@ pub mod SizeLaws
 pub mod GoodEditLaws
 pub mod EditLaws
 pub mod FindLaws
+pub mod CheckLaws
+pub mod TableRefusals
+pub mod StepRefusals
+pub mod EditRefusals
+pub mod CarryRefusals
 pub mod EditSizes
 pub mod EditSound
 pub mod FarmCalls

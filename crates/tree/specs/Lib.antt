@@ -13,6 +13,8 @@ pub mod Edit
 pub mod EditRules
 pub mod Refusal
 pub mod Outcome
+pub mod Request
+pub mod RefusalRules
 pub mod Carry
 pub mod CarryRules
 pub mod Trees
