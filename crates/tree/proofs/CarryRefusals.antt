@@ -20,7 +20,7 @@ use Rattle.tree.specs.declared.Checked.{Checked}
 use Rattle.tree.specs.declared.Checked.the-variants.{Passed, Refused}
 use Rattle.tree.specs.declared.Carried.the-variants.{Refused as NotCarried}
 use Rattle.tree.proofs.RoleLaws.{pair-passes}
-use Rattle.tree.proofs.MoveLaws.{move-ok}
+use Rattle.tree.proofs.RowMoveLaws.{move-ok}
 use Rattle.tree.proofs.CheckLaws.{Numbers, given-numbers, next-numbers, stop, skip, given-when, given-unless}
 use Rattle.tree.proofs.CheckLaws.{le-iff, zero-iff, above-iff, not-passes-iff, not-iff, not-fails-iff, and-iff}
 use Rattle.tree.proofs.CheckLaws.{nand-iff, flat-three, flat-four, flat-five}

@@ -8,7 +8,8 @@ use mathlib.Core.Logic.{_⊎_}
 use mathlib.Core.List.{List}
 use Prim.Native.Nat.{ℕ, _+_, _-_, _<_, _≤_}
 use lib.ListN.{length}
-use Rattle.tree.specs.Table.{Table, at, shortest}
+use Rattle.tree.specs.Table.{Table, mostRows, at, shortest}
+use Rattle.tree.specs.Pairs.{mostPairs}
 use Rattle.tree.specs.Rules.{Sound}
 use Rattle.tree.specs.EditRules.{NoKey, OtherRoot}
 use Rattle.tree.specs.Request.{Request, check, find, step, insert, delete, rename}
@@ -29,17 +30,17 @@ abbrev pub None : (ℕ → Type 0) → ℕ → Type 0
 None P n = (i : ℕ) → i < n → P i → ⊥
 
 -- ── the table ──
--- 1: the count is 0, above 4,096, or above the shortest table column
+-- 1: the count is 0, above `mostRows`, or above the shortest table column
 abbrev pub WrongCount : Table → Type 0
-WrongCount t = ((t .count ≡ 0) ⊎ (4096 < t .count)) ⊎ (shortest t < t .count)
+WrongCount t = ((t .count ≡ 0) ⊎ (mostRows < t .count)) ⊎ (shortest t < t .count)
 
 -- ── the step ──
--- 3: pair columns differ in length or exceed 4,096; and where they do neither
+-- 3: pair columns differ in length or exceed `mostPairs`; and where they do neither
 abbrev pub Uneven : List ℕ → List ℕ → Type 0
-Uneven role row = (length role ≡ length row → ⊥) ⊎ (4096 < length role)
+Uneven role row = (length role ≡ length row → ⊥) ⊎ (mostPairs < length role)
 
 abbrev pub Even : List ℕ → List ℕ → Type 0
-Even role row = (length role ≡ length row) × (length role ≤ 4096)
+Even role row = (length role ≡ length row) × (length role ≤ mostPairs)
 
 -- 4: the pair at place i is less than the one before it, by role, then row
 abbrev pub Falls : List ℕ → List ℕ → ℕ → Type 0
@@ -82,9 +83,9 @@ TooDeep t r piece i = 63 < at (piece .level) i + (at (t .level) r + 1)
 abbrev pub Taken : Table → Table → ℕ → Type 0
 Taken t piece i = Some (λ j. at (t .key) j ≡ at (piece .key) i) (t .count)
 
--- 14: the new count would exceed 4,096 or the shortest table column
+-- 14: the new count would exceed `mostRows` or the shortest table column
 abbrev pub Full : Table → Table → Type 0
-Full t piece = (4096 < t .count + piece .count) ⊎ (shortest t < t .count + piece .count)
+Full t piece = (mostRows < t .count + piece .count) ⊎ (shortest t < t .count + piece .count)
 
 -- 15: row r is the only root
 abbrev pub OnlyRoot : Table → ℕ → Type 0
@@ -95,9 +96,9 @@ abbrev pub NoName : Table → ℕ → ℕ → Type 0
 NoName t r m = ((at (t .kind) r ≡ 1) ⊎ (at (t .kind) r ≡ 4) → ⊥) ⊎ (m ≡ 0)
 
 -- ── carrying pairs over an edit: 02, E1 ──
--- 1: the old count is 0 or above 4,096; and where it is neither
+-- 1: the old count is 0 or above `mostRows`; and where it is neither
 abbrev pub WrongOld : ℕ → Type 0
-WrongOld old = (old ≡ 0) ⊎ (4096 < old)
+WrongOld old = (old ≡ 0) ⊎ (mostRows < old)
 
 abbrev pub RightOld : ℕ → Type 0
-RightOld old = (1 ≤ old) × (old ≤ 4096)
+RightOld old = (1 ≤ old) × (old ≤ mostRows)
