@@ -23,7 +23,7 @@ use Rattle.tree.proofs.SoundLaws.{both, next-passed, given-passed}
 use Rattle.tree.proofs.AcceptLaws.{next-next}
 use Rattle.tree.proofs.RoleLaws.{pair-passes}
 use Rattle.carry.specs.CarryLeaves.{CarryLeaves}
-use Rattle.carry.specs.Moves.{MovesRow}
+use Rattle.moves.specs.Moves.{MovesRow}
 use Rattle.carry.specs.Left.{moveOf, leftOf, Ready, Carries}
 use Rattle.tree.proofs.RowMoveLaws.{move-ok}
 use Rattle.carry.proofs.StayLaws.{left-is}

@@ -23,7 +23,7 @@ use Rattle.after_edit.specs.Survives.{movedTo, goes}
 use Rattle.after_edit.proofs.ActLaws.{Fits, accepted-has, after-sound}
 use Rattle.after_edit.proofs.FoundAgain.{plus-minus, after-gap}
 use Rattle.after_edit.proofs.GoneLaws.{in-gap}
-use Rattle.carry.proofs.StayLaws.{between, before-it, behind-it}
+use Rattle.moves.proofs.GoneRowLaws.{between, before-it, behind-it}
 
 -- ── the row after the edit ──
 -- what commute says of an edit's answer is what carrying does with its two numbers

@@ -1,4 +1,3 @@
-pub mod SignedLaws
 pub mod StayLaws
 pub mod WriteLaws
 pub mod CarryLeavesLaws

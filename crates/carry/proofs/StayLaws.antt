@@ -1,5 +1,4 @@
--- A row between two rows went, `between`, any other did not, `before-it`, `behind-it`. Counting the pairs that stay: at
--- the front none, `left-none`, one row more, `left-next`, all of them, `left-all`. Where the move does not lead towards
+-- Counting the pairs that stay: at the front none, `left-none`, one row more, `left-next`, all of them, `left-all`. Where the move does not lead towards
 -- the front all stay, `left-whole`, and where all do, each does, `each-stays`. They are as many as the carried list
 -- has, `left-carried`. Where the move leads to the row `to`, a row and the list in row numbers are `row-to` and
 -- `carried-to`, and the list's length is `left-is`. Assumes nothing.
@@ -21,24 +20,9 @@ use Rattle.tree.specs.Carry.{rowAfter, carriedBy, carried, moveOk}
 use Rattle.tree.specs.CarryRules.{MoveFits, newRow, goneRow}
 use Rattle.tree.proofs.RowMoveLaws.{move-ok, new-row}
 use Rattle.tree.proofs.CarryAccept.{carried-is}
+use Rattle.moves.proofs.GoneRowLaws.{between, before-it, behind-it}
 use Rattle.carry.specs.Left.{leftOf}
 
--- ── one row ──
--- a row in between was deleted, any other was not
-pub between : (a b w : ℕ) → a ≤ w → w < b → goneRow a b w ≡ true
-between a b w l m = rw (le-leb a w l, lt-ltb w b m)
-
-pub before-it : (a b w : ℕ) → w < a → goneRow a b w ≡ false
-before-it a b w l = rw (lt-leb a w l)
-
-pub behind-it : (a b w : ℕ) → b ≤ w → goneRow a b w ≡ false
-behind-it a b w l = go (leb a w)
-  where
-    go : (c : Bool) → (c && ltb w b) ≡ false
-    go true = le-ltb w b l
-    go false = refl
-
--- ── all rows ──
 module _ (to first : ℕ) where
   -- of no rows none stay
   pub left-none : (row : List ℕ) → leftOf to first (take 0 row) ≡ 0

@@ -1,4 +1,3 @@
 pub mod CarryLeaves
-pub mod Moves
 pub mod Left
 pub mod Refound

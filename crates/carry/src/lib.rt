@@ -3,11 +3,11 @@
 ghost use Rattle.tree.specs.Carry.{carryOutcome};
 ghost use Rattle.carry.specs.CarryLeaves.{CarryLeaves};
 
-mod checks; // checks.rt: refusals 1, 3 to 5 and 17
-mod moved; // moved.rt: a row after the edit
 mod writing; // writing.rt: all pairs
 
 use crate::writing::Move;
+use moves::checks;
+use moves::moved::moved_to;
 use tree::Carried;
 use tree::Checked;
 use tree::logic::smaller;
@@ -31,7 +31,7 @@ pub fn carry(
     match checked {
         Checked::Refused(number, place) => Carried::Refused(number, place),
         Checked::Passed => {
-            let to = moved::moved_to(old_count, first, moved, first);
+            let to = moved_to(old_count, first, moved, first);
             let left = writing::count_left(row, to, first);
             if smaller(out_role.len(), out_row.len()) < left {
                 return Carried::Refused(8, left);

@@ -4,8 +4,8 @@
 ghost use mathlib.Core.Path.{_≡_};
 ghost use lib.ListN.{length};
 ghost use Rattle.carry.specs.Left.{leftOf, Ready, Carries, PutRoom, Puts, Writing};
-use super::moved::row_after;
-use super::moved::stays;
+use moves::moved::row_after;
+use moves::moved::stays;
 
 // The old count, what the edit answered, and where its first moved row went.
 pub(crate) struct Move {

@@ -18,7 +18,8 @@ use Rattle.tree.specs.declared.Checked.the-variants.{Passed, Refused}
 use Rattle.tree.specs.declared.Found.the-variants.{At, Refused as NotFound}
 use Rattle.tree.specs.declared.Done.{Done}
 use Rattle.tree.proofs.SoundLaws.{table-passes}
-use Rattle.edit_at.specs.AtRow.{RowFound, insertAt, deleteAt, renameAt}
+use Rattle.piece.specs.RowFound.{RowFound}
+use Rattle.edit_at.specs.AtRow.{insertAt, deleteAt, renameAt}
 use Rattle.edit_at.proofs.OutcomeLaws.{refused, own-refused}
 
 -- a table that passed has a key in each row in use

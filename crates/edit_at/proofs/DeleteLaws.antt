@@ -19,12 +19,14 @@ use Rattle.tree.proofs.LastRootLaws.{only-root-is}
 use Rattle.tree.proofs.EditLaws.{gap-fits}
 use Rattle.tree.proofs.ColumnLaws.{length-changed}
 use Rattle.edit_at.specs.EditLeaves.{EditLeaves}
-use Rattle.edit_at.specs.AtRow.{RowFound, deleteAt}
+use Rattle.piece.specs.RowFound.{RowFound}
+use Rattle.edit_at.specs.AtRow.{deleteAt}
 use Rattle.shift.specs.Done.{answered}
 use Rattle.shift.specs.Part.{pulled, cleared}
 use Rattle.shift.specs.Enclosing.{lowered, Lowerable}
 use Rattle.shift.proofs.MoverLaws.{pulled-cleared}
-use Rattle.edit_at.proofs.OutcomeLaws.{leaves, own-refused, own-passed, given-is}
+use Rattle.edit_at.proofs.OutcomeLaws.{leaves, own-refused, own-passed}
+use Rattle.piece.proofs.PieceLaws.{given-is}
 use Rattle.shift.proofs.SizePassLaws.{lowered-is, lowerable}
 
 module _ (t : Table) (r : ℕ) where

@@ -1,10 +1,8 @@
--- The outcome of an edit at a row, by its own check: `own-refused`, `own-passed`, `given-is`. What is left of the
+-- The outcome of an edit at a row, by its own check: `own-refused`, `own-passed`. What is left of the
 -- columns by an outcome: `leaves`. Assumes nothing.
 use mathlib.Core.Path.{_≡_, sym, ap}
-use mathlib.Core.Bool.{Bool, true, cond}
 use Prim.Native.Nat.{ℕ}
 use Rattle.tree.specs.Table.{Table}
-use Rattle.tree.specs.Refusal.{given}
 use Rattle.tree.specs.Outcome.{EditOutcome, editIf}
 use Rattle.tree.specs.declared.Checked.{Checked}
 use Rattle.tree.specs.declared.Checked.the-variants.{Passed, Refused}
@@ -41,8 +39,3 @@ own-refused d t′ t e = ap (λ (c : Checked). editIf c d t′ t) e
 pub own-passed : {c : Checked} (d : Done) (t′ t : Table) → c ≡ Passed → editIf c d t′ t ≡ made d t′
 unfolding editIf
 own-passed d t′ t e = ap (λ (c : Checked). editIf c d t′ t) e
-
--- a single refusal, given or not
-pub given-is : {b : Bool} (m p : ℕ) → b ≡ true → given b m p ≡ Refused m p
-unfolding given
-given-is m p e = ap (λ (x : Bool). cond x (Refused m p) Passed) e

@@ -1,21 +1,16 @@
 -- Edits at a row that was found in a table that was checked: what the inner functions answer and what they ask for.
 -- That the outcome of an edit by key is that of the edit at the key's row is in proofs/OutcomeLaws.antt. Assumes
 -- nothing.
-use Prim.Native.Nat.{ℕ, _<_}
+use Prim.Native.Nat.{ℕ}
 use mathlib.Core.Path.{_≡_}
 use Rattle.tree.specs.Table.{Table}
-use Rattle.tree.specs.Rules.{Sound}
 use Rattle.tree.specs.Edit.{inserted, deleted, renamed, insertDone, deleteDone, renameDone}
 use Rattle.tree.specs.Refusal.{insertCheck, deleteCheck, renameCheck}
 use Rattle.tree.specs.Outcome.{EditOutcome, editIf}
 use Rattle.tree.specs.declared.Checked.the-variants.{Passed}
+use Rattle.piece.specs.RowFound.{RowFound}
 
--- what the check of the table and the search for the key established
-pub record RowFound (t : Table) (r : ℕ) : Type 0 where
-  pub sound : Sound t
-  pub in-use : r < t .count
-
--- and the piece p fits under row r
+-- row r was found, and the piece p fits under it
 pub record PieceChecked (t : Table) (r : ℕ) (p : Table) : Type 0 where
   pub known : RowFound t r
   pub fits : insertCheck t r p ≡ Passed

@@ -1,7 +1,8 @@
 // A deletion at a row: document 01, "Finding and editing by key"; refusal 15.
 ghost use Rattle.tree.specs.Table.{tableOf};
 ghost use Rattle.edit_at.specs.EditLeaves.{EditLeaves};
-ghost use Rattle.edit_at.specs.AtRow.{RowFound, deleteAt};
+ghost use Rattle.piece.specs.RowFound.{RowFound};
+ghost use Rattle.edit_at.specs.AtRow.{deleteAt};
 use shift::done;
 use shift::mover::clear_column;
 use shift::mover::close_column;

@@ -6,8 +6,8 @@ use Prim.Native.Nat.{ℕ}
 use Rattle.tree.specs.Table.{Table}
 use Rattle.tree.specs.Outcome.{StepOutcome, EditOutcome, checkOutcome, findOutcome}
 use Rattle.tree.specs.Carry.{CarryOutcome}
-use Rattle.reach_c.specs.Answer.{checkAnswer, findAnswer, StepAnswers, EditAnswers, CarryAnswers}
-use Rattle.reach_c.specs.declared.answer.Answer.{Answer}
+use Rattle.answer.specs.Answer.{checkAnswer, findAnswer, StepAnswers, EditAnswers, CarryAnswers}
+use Rattle.answer.specs.declared.Answer.{Answer}
 
 pub check-only : (t : Table) {x y : Answer} → x ≡ checkAnswer (checkOutcome t) → y ≡ checkAnswer (checkOutcome t)
     → x ≡ y

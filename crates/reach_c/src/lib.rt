@@ -5,11 +5,8 @@ ghost use Rattle.tree.specs.Outcome.{checkOutcome, findOutcome, stepOutcome};
 ghost use Rattle.tree.specs.Outcome.{insertOutcome, deleteOutcome, renameOutcome};
 ghost use Rattle.tree.specs.Step.{askOf};
 ghost use Rattle.tree.specs.Carry.{carryOutcome};
-ghost use Rattle.reach_c.specs.Answer.{checkAnswer, findAnswer, StepAnswers, EditAnswers, CarryAnswers};
-
-pub mod answer; // answer.rt: the library's answers as one struct
-
-use crate::answer::Answer;
+ghost use Rattle.answer.specs.Answer.{checkAnswer, findAnswer, StepAnswers, EditAnswers, CarryAnswers};
+use answer::Answer;
 use tree::Ask;
 
 // Refusal 1 or 2, or that the table is sound.

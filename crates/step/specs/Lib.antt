@@ -1,4 +1,1 @@
-pub mod Runs
-pub mod StepReady
 pub mod StepLeaves
-pub mod Bounds

@@ -2,8 +2,8 @@
 ghost use mathlib.Core.Path.{_≡_};
 ghost use Rattle.tree.specs.Table.{tableOf};
 ghost use Rattle.tree.specs.Refusal.{next, tableCheck, pairCheck, askCheck};
-use super::ask::check_ask;
-use table::pairs::check_pairs;
+use asked::ask::check_ask;
+use asked::pairs::check_pairs;
 use tree::Ask;
 use tree::Checked;
 

@@ -2,16 +2,13 @@
 ghost use Rattle.tree.specs.Table.{tableOf};
 ghost use Rattle.tree.specs.Outcome.{stepOutcome};
 ghost use Rattle.step.specs.StepLeaves.{StepLeaves};
-ghost use Rattle.step.specs.StepReady.{CallChecked};
+ghost use Rattle.lines.specs.StepReady.{CallChecked};
 
-mod ask; // ask.rt: the axis code, the test code and its name
 mod checks; // checks.rt: refusals 1 to 7
-mod bounds; // bounds.rt: an upper bound of the number of lines
-mod runs; // runs.rt: the run of pairs of one role
-mod roles; // roles.rt: all roles
 mod room; // room.rt: whether the lines fit
 
 use axis::role::up_for;
+use lines::roles::write_all;
 use tree::Ask;
 use tree::Checked;
 use tree::Stepped;
@@ -58,7 +55,7 @@ pub fn step_known(
     match fitting {
         Checked::Refused(number, place) => Stepped::Refused(number, place),
         Checked::Passed => {
-            let tally = roles::write_all(
+            let tally = write_all(
                 key,
                 size,
                 level,

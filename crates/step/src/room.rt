@@ -6,9 +6,9 @@ ghost use Rattle.tree.specs.Table.{tableOf};
 ghost use Rattle.tree.specs.Pairs.{pairsOf};
 ghost use Rattle.tree.specs.Step.{stepList};
 ghost use Rattle.tree.specs.Refusal.{given};
-ghost use Rattle.step.specs.StepReady.{StepReady};
-use super::bounds::surely_fits;
-use super::roles::count_all;
+ghost use Rattle.lines.specs.StepReady.{StepReady};
+use bounds::surely_fits;
+use lines::roles::count_all;
 use tree::Ask;
 use tree::Checked;
 

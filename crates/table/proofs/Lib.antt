@@ -1,3 +1,1 @@
-pub mod OnePassLaws
-pub mod PairLaws
 pub mod TableOnlyLaws

@@ -5,11 +5,6 @@ ghost use Prim.Native.Nat.{_≤_};
 ghost use lib.ListN.{length};
 ghost use Rattle.tree.specs.Table.{tableOf};
 ghost use Rattle.tree.specs.Outcome.{checkOutcome, findOutcome, located};
-
-pub mod rows; // rows.rt: the rules of a row, and the least row that breaks one
-mod one_pass; // one_pass.rt: all rows in one pass
-pub mod pairs; // pairs.rt: the pairs of role and row
-
 use tree::Checked;
 use tree::Found;
 
@@ -26,10 +21,10 @@ pub fn check(
         (tableOf (now (key .entry)) (now (size .entry)) (now (level .entry))
         (now (kind .entry)) (now (name .entry)) count) ⌝ }
 {
-    if !rows::count_ok(key, size, level, kind, name, count) {
+    if !rules::rows::count_ok(key, size, level, kind, name, count) {
         return Checked::Refused(1, 0);
     }
-    let bad = rows::first_bad(key, size, level, kind, name, count);
+    let bad = rules::rows::first_bad(key, size, level, kind, name, count);
     if bad < count {
         return Checked::Refused(2, bad);
     }

@@ -3,7 +3,7 @@
 use mathlib.Core.Path.{ap, _∙_}
 use mir.Syntax.{w64}
 use mir.Facts.{toZ-ofZ}
-use Rattle.reach_c.specs.Answer.{carryAnswer}
+use Rattle.answer.specs.Answer.{carryAnswer}
 use borrow.Author.Needs.{needs}
 use Rattle.reach_c.proofs.reach_carry.Statement.{statement}
 use Rattle.reach_c.proofs.reach_carry.Tie as tie

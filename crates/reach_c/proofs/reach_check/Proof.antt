@@ -1,6 +1,6 @@
 -- `reach_c::reach_check` meets its contract: the library's answer, put into C's struct. Assumes nothing.
 use mathlib.Core.Path.{ap, _∙_}
-use Rattle.reach_c.specs.Answer.{checkAnswer}
+use Rattle.answer.specs.Answer.{checkAnswer}
 use borrow.Author.Needs.{needs}
 use Rattle.reach_c.proofs.reach_check.Statement.{statement}
 use Rattle.reach_c.proofs.reach_check.Tie as tie

@@ -1,6 +1,6 @@
 -- `reach_c::reach_delete` meets its contract: the library's answer in C's struct, and its columns. Assumes nothing.
 use mathlib.Core.Path.{ap, _∙_}
-use Rattle.reach_c.specs.Answer.{editAnswer}
+use Rattle.answer.specs.Answer.{editAnswer}
 use borrow.Author.Needs.{needs}
 use Rattle.reach_c.proofs.reach_delete.Statement.{statement}
 use Rattle.reach_c.proofs.reach_delete.Tie as tie

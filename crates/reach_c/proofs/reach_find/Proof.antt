@@ -1,6 +1,6 @@
 -- `reach_c::reach_find` meets its contract: the library's answer, put into C's struct. Assumes nothing.
 use mathlib.Core.Path.{ap, _∙_}
-use Rattle.reach_c.specs.Answer.{findAnswer}
+use Rattle.answer.specs.Answer.{findAnswer}
 use borrow.Author.Needs.{needs}
 use Rattle.reach_c.proofs.reach_find.Statement.{statement}
 use Rattle.reach_c.proofs.reach_find.Tie as tie

@@ -1,7 +1,7 @@
 -- `reach_c::reach_step` meets its contract: the library's answer, put into C's struct, and its columns.
 -- Assumes nothing.
 use mathlib.Core.Path.{ap, _∙_}
-use Rattle.reach_c.specs.Answer.{stepAnswer}
+use Rattle.answer.specs.Answer.{stepAnswer}
 use borrow.Author.Needs.{needs}
 use Rattle.reach_c.proofs.reach_step.Statement.{statement}
 use Rattle.reach_c.proofs.reach_step.Tie as tie

@@ -4,7 +4,8 @@ use Rattle.tree.specs.Table.{Table, tableOf}
 use Rattle.tree.specs.Edit.{renameDone, renamed}
 use Rattle.tree.specs.Refusal.{renameCheck}
 use Rattle.tree.proofs.SoundLaws.{given-not}
-use Rattle.edit_at.proofs.OutcomeLaws.{leaves, own-refused, own-passed, given-is}
+use Rattle.edit_at.proofs.OutcomeLaws.{leaves, own-refused, own-passed}
+use Rattle.piece.proofs.PieceLaws.{given-is}
 use borrow.Author.Needs.{needs}
 use Rattle.edit_at.proofs.renaming.rename_at.Statement.{statement}
 use Rattle.edit_at.proofs.renaming.rename_at.Tie as tie

@@ -1,0 +1,94 @@
+// The library's answers as one struct for C. Refusal 0 is acceptance; what an answer does not use is 0.
+ghost use mathlib.Core.Path.{_≡_};
+ghost use Rattle.answer.specs.Answer.{accepted, refused, checkAnswer, findAnswer, stepAnswer, editAnswer};
+ghost use Rattle.answer.specs.Answer.{carryAnswer};
+use tree::Carried;
+use tree::Checked;
+use tree::Edited;
+use tree::Found;
+use tree::Stepped;
+
+#[repr(C)]
+pub struct Answer {
+    pub refusal: usize,
+    pub place: usize,
+    pub first: usize,
+    pub second: usize,
+    pub moved: i64,
+}
+
+// An acceptance, with two numbers and a move.
+fn accept(first: usize, second: usize, moved: i64) -> Answer
+    ensures { λ r. ⌜ r ≡ accepted first second moved ⌝ }
+{
+    Answer {
+        refusal: 0,
+        place: 0,
+        first,
+        second,
+        moved,
+    }
+}
+
+// A refusal, with its number and place.
+fn refuse(number: usize, place: usize) -> Answer
+    ensures { λ r. ⌜ r ≡ refused number place ⌝ }
+{
+    Answer {
+        refusal: number,
+        place,
+        first: 0,
+        second: 0,
+        moved: 0,
+    }
+}
+
+// What a check answers.
+pub fn of_check(checked: Checked) -> Answer
+    ensures { λ r. ⌜ r ≡ checkAnswer checked ⌝ }
+{
+    match checked {
+        Checked::Passed => accept(0, 0, 0),
+        Checked::Refused(number, place) => refuse(number, place),
+    }
+}
+
+// What finding a key answers: the row first.
+pub fn of_find(found: Found) -> Answer
+    ensures { λ r. ⌜ r ≡ findAnswer found ⌝ }
+{
+    match found {
+        Found::At(row) => accept(row, 0, 0),
+        Found::Refused(number, place) => refuse(number, place),
+    }
+}
+
+// What a step answers: the number of results first, then the kept count.
+pub fn of_step(stepped: Stepped) -> Answer
+    ensures { λ r. ⌜ r ≡ stepAnswer stepped ⌝ }
+{
+    match stepped {
+        Stepped::Listed(results, kept) => accept(results, kept, 0),
+        Stepped::Refused(number, place) => refuse(number, place),
+    }
+}
+
+// What an edit answers: the new count first, then the first moved row, and the move.
+pub fn of_edit(edited: Edited) -> Answer
+    ensures { λ r. ⌜ r ≡ editAnswer edited ⌝ }
+{
+    match edited {
+        Edited::Made(done) => accept(done.count, done.first, done.moved),
+        Edited::Refused(number, place) => refuse(number, place),
+    }
+}
+
+// What carrying answers: the number of pairs first.
+pub fn of_carry(carried: Carried) -> Answer
+    ensures { λ r. ⌜ r ≡ carryAnswer carried ⌝ }
+{
+    match carried {
+        Carried::Written(pairs) => accept(pairs, 0, 0),
+        Carried::Refused(number, place) => refuse(number, place),
+    }
+}

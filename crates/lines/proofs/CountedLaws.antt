@@ -1,0 +1,147 @@
+-- Counting the lines role by role: `counted-none` at the start, `counted-more` for a run more, `counted-done` at
+-- the end; `run-asks`: what the step of one role asks for at a run. Assumes nothing.
+use mathlib.Core.Path.{_≡_, refl, ap, _∙_}
+use mathlib.Core.Bool.{Bool, true, false}
+use mathlib.Core.List.{List, [], _∷_, _++_}
+use Prim.Native.Nat.{ℕ, zero, suc, _+_, _*_, _≤_}
+use native.Mathlib.Nat.{le-refl, le-trans}
+use native.Mathlib.Omega.{arith}
+use borrow.Author.Tests.{not-false}
+use lib.ListN.{length, drop, length-append, drop-of-length-le}
+use Rattle.tree.specs.Search.{gather, only}
+use Rattle.tree.specs.Table.{Table, at}
+use Rattle.tree.specs.Axis.{axisOk}
+use Rattle.tree.specs.Test.{testOk}
+use Rattle.tree.specs.Pairs.{pairsOf, withRole, distinct}
+use Rattle.tree.specs.declared.Ask.{Ask}
+use Rattle.tree.specs.Step.{stepList, linesOf}
+use Rattle.tree.specs.StepRules.{PairsFit}
+use Rattle.tree.specs.Refusal.{askCheck}
+use Rattle.tree.specs.declared.Checked.the-variants.{Passed}
+use Rattle.tree.proofs.SearchLaws.{gather-zero, gather-length}
+use Rattle.tree.proofs.SoundLaws.{sound-shape, next-passed, given-passed}
+use Rattle.tree.proofs.RoleLaws.{pair-passes}
+use Rattle.span.specs.Want.{wantOf}
+use Rattle.span.specs.OneRole.{oneRole}
+use Rattle.marks.specs.RowSet.{Blank}
+use Rattle.axis.specs.Role.{RoleAsk, RoleDone}
+use Rattle.lines.specs.Runs.{pairsFrom, runRows, RunEnd}
+use Rattle.lines.specs.StepReady.{StepReady}
+use Rattle.span.proofs.WroteLaws.{wrote-length}
+use Rattle.lines.proofs.RunLaws.{roleRows, step-run, run-contexts}
+
+-- a search gathers no more than it looks at
+pub gather-most : (f : ℕ → Bool) (n : ℕ) → length (gather f n) ≤ n
+gather-most f zero = rw (gather-zero f) (le-refl 0)
+gather-most f (suc n) =
+    omega (arith, gather-length f n, gather-most f n, one (f n))
+  where
+    one : (b : Bool) → length (only b n) ≤ 1
+    one true = le-refl 1
+    one false = omega arith
+
+pub length-role : (r : ℕ) (cs : List ℕ) → length (withRole r cs) ≡ length cs
+unfolding withRole
+length-role r [] = refl
+length-role r (c ∷ cs) = ap suc (length-role r cs)
+
+-- refusals 6 and 7 do not apply
+pub asked-parts : (a : Ask) → askCheck a ≡ Passed → (axisOk (a .axis) ≡ true) × (testOk (a .test) (a .name) ≡ true)
+unfolding askCheck
+asked-parts a e =
+    let p = next-passed _ _ .0 e in
+    (not-false _ (given-passed _ _ _ (p .0)), not-false _ (given-passed _ _ _ (p .1)))
+
+-- no pairs, no lines
+pub step-none : (t : Table) (a : Ask) → stepList t a [] ≡ []
+unfolding stepList linesOf distinct
+step-none t a = refl
+
+-- the lines before place i are counted
+pub record Counted (t : Table) (a : Ask) (role row words scratch : List ℕ) (total i : ℕ) : Type 0 where
+  pub within : i ≤ length role
+  pub blank : Blank words
+  pub wide : length scratch ≡ 4096
+  pub small : total ≤ i * 4096
+  sum : total + length (stepList t a (pairsFrom role row i)) ≡ length (stepList t a (pairsOf role row))
+
+module _ (t : Table) (a : Ask) (up role row : List ℕ) (s : StepReady t a up role row) where
+  pub pairs-fit : PairsFit role row (t .count)
+  pairs-fit = pair-passes role row (t .count) .0 (s .call .pairs)
+
+  -- the lines of the run at i, and those after it
+  pub step-at : (i j : ℕ) → RunEnd role i j
+      → stepList t a (pairsFrom role row i)
+      ≡ withRole (at role i) (roleRows t a (runRows row i j)) ++ stepList t a (pairsFrom role row j)
+  step-at i j e = step-run role row (t .count) i j pairs-fit e t a (asked-parts a (s .call .asked) .1)
+
+  -- past the last pair no line is left
+  pub step-end : (i : ℕ) → length role ≤ i → stepList t a (pairsFrom role row i) ≡ []
+  unfolding pairsOf
+  step-end i l = ap (λ (rs : List ℕ). stepList t a (pairsOf rs (drop i row))) (drop-of-length-le role l) ∙ step-none t a
+
+  pub run-asks : (i j : ℕ) (words out : List ℕ) → RunEnd role i j → Blank words
+      → length (roleRows t a (runRows row i j)) ≤ length out
+      → RoleAsk (a .axis) (t .size) (t .level) (t .kind) (t .name) (t .count) up
+      (runRows row i j) (wantOf a) words out
+  run-asks i j words out e b room = record {
+    known = asked-parts a (s .call .asked) .0;
+    asks = record {
+      shape = sound-shape t (s .call .sound);
+      contexts = run-contexts role row (t .count) i j pairs-fit e;
+      in-kind = s .call .sound .in-use .in-kind;
+      in-name = s .call .sound .in-use .in-name;
+      room = room;
+    };
+    links = s .links;
+    blank = b;
+  }
+
+  pub counted-none : (words scratch : List ℕ) → Blank words → length scratch ≡ 4096
+      → Counted t a role row words scratch 0 0
+  counted-none words scratch b w = record {
+    within = omega arith;
+    blank = b;
+    wide = w;
+    small = omega arith;
+    sum = omega arith;
+  }
+
+  -- one role reaches at most all rows
+  pub row-most : (i j : ℕ) → length (roleRows t a (runRows row i j)) ≤ 4096
+  unfolding oneRole
+  row-most i j = le-trans (gather-most _ (t .count)) (s .call .sound .in-use .few)
+
+  pub counted-asks : {words scratch : List ℕ} {total i : ℕ} (j : ℕ) → Counted t a role row words scratch total i
+      → RunEnd role i j
+      → RoleAsk (a .axis) (t .size) (t .level) (t .kind) (t .name) (t .count) up
+      (runRows row i j) (wantOf a) words scratch
+  counted-asks {words} {scratch} {i = i} j c e =
+      run-asks i j words scratch e (c .blank) (let w = c .wide in omega (arith, row-most i j))
+
+  module _ {words scratch words′ scratch′ : List ℕ} {total i r j : ℕ} (c : Counted t a role row words scratch total i)
+      (e : RunEnd role i j)
+      (d : RoleDone (a .axis) (t .level) (t .kind) (t .name) (t .count)
+      (runRows row i j) (wantOf a) words′ scratch r scratch′) where
+    pub counted-small : r ≤ 4096
+    counted-small = omega (arith, d .wrote .many, row-most i j)
+
+    pub counted-more : Counted t a role row words′ scratch′ (total + r) j
+    counted-more =
+        let many : r ≡ length (roleRows t a (runRows row i j)) = d .wrote .many in
+        let lines = ap length (step-at i j e) ∙ length-append (withRole (at role i) (roleRows t a (runRows row i j))) _ in
+        let one = length-role (at role i) (roleRows t a (runRows row i j)) in
+        let k = e .after in
+        record {
+          within = e .within;
+          blank = d .blank;
+          wide = wrote-length (d .wrote) (let w = c .wide in omega (arith, row-most i j)) ∙ c .wide;
+          small = omega (arith, c .small, counted-small);
+          sum = omega (arith, c .sum);
+        }
+
+  pub counted-done : {words scratch : List ℕ} {total i : ℕ} → Counted t a role row words scratch total i
+      → length role ≤ i
+      → total ≡ length (stepList t a (pairsOf role row))
+  counted-done {i = i} c l =
+      let z : length (stepList t a (pairsFrom role row i)) ≡ 0 = ap length (step-end i l) in omega (arith, c .sum)

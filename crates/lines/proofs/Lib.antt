@@ -1,0 +1,4 @@
+pub mod RunLaws
+pub mod CountedLaws
+pub mod WrittenLaws
+pub mod KeptRunLaws

@@ -1,0 +1,27 @@
+-- `rules::rows::first_bad` meets its contract: the least row that fails one of two tests is the smaller of the two
+-- leasts. Assumes nothing.
+use Rattle.tree.proofs.SearchLaws.{least-both}
+use Rattle.rules.specs.FirstBad.{firstBadBesideKey}
+use Rattle.keys.specs.FirstKey.{firstKey}
+use Rattle.tree.specs.Sound.{firstBad, rowOk}
+use borrow.Author.Needs.{needs}
+use Rattle.rules.proofs.rows.first_bad.Statement.{statement}
+use Rattle.rules.proofs.rows.first_bad.Tie as tie
+
+first-bad-beside-key-requires : tie.Need-first-bad-beside-key-requires
+first-bad-beside-key-requires c κs = search needs
+
+first-key-requires : tie.Need-first-key-requires
+first-key-requires c κs = search needs
+
+smaller-requires : tie.Need-smaller-requires
+smaller-requires c κs = search needs
+
+returns : tie.Need-returns
+unfolding firstBad firstBadBesideKey firstKey rowOk
+returns c =
+    simp (c .smaller .ensures, c .before .first-key .ensures, c .before .before .first-bad-beside-key .ensures, least-both)
+
+pub first-bad-spec : {M : Type 1} → statement M
+first-bad-spec =
+    tie.close (tie.spec first-bad-beside-key-requires first-key-requires smaller-requires returns)

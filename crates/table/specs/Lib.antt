@@ -1,3 +1,0 @@
-pub mod FirstBad
-pub mod OnePass
-pub mod Places
