@@ -7,3 +7,6 @@ pub mod InTurnLaws
 pub mod InUseLaws
 pub mod EitherOrder
 pub mod FarmPair
+pub mod NeededLaws
+pub mod FarmRoom
+pub mod FarmEachPair

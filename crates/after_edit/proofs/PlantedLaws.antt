@@ -1,31 +1,37 @@
 -- After an accepted insertion the rows of the piece stand from the first moved row on and hold what they held, their
--- levels raised by the parent's level plus one: `piece-there`. The first of them is the last child of the named row:
--- `last-child`. Assumes nothing.
-use mathlib.Core.Path.{_≡_, refl, ap, _∙_}
-use mathlib.Core.Bool.{Bool, cond, _||_}
+-- levels raised by the parent's level plus one: `piece-there`. Each is found there by its key: `piece-found`. The
+-- first of them is the last child of the named row, `last-child`: it is on that row's child axis, and no row follows it
+-- as a sibling, `last-on-axis`. Assumes nothing.
+use mathlib.Core.Path.{_≡_, refl, sym, ap, _∙_}
+use mathlib.Core.Bool.{Bool, true, false, cond, _||_}
 use mathlib.Core.List.{List, [], _∷_, map}
 use Prim.Native.Nat.{ℕ, zero, suc, _+_, _-_, _<_, _≤_}
 use native.Mathlib.Nat.{le-of-suc-le-suc, not-suc-le-zero}
 use native.Mathlib.Omega.{arith}
-use borrow.Author.Tests.{eq-eqb}
-use lib.Dec.{eqb}
+use borrow.Author.Tests.{eqb-true, eq-eqb, ltb-true}
+use lib.Dec.{ltb, eqb}
 use lib.ListN.{length, length-map}
 use Rattle.tree.specs.Table.{Table, at}
 use Rattle.tree.specs.Sound.{rowOf}
 use Rattle.tree.specs.Rules.{InUse, Sound}
-use Rattle.tree.specs.Tree.{ancestor}
+use Rattle.tree.specs.Tree.{parent, ancestor, siblings}
+use Rattle.tree.specs.Axis.{onAxis}
 use Rattle.tree.specs.Edit.{opened, gapOf, inserted, insertDone}
-use Rattle.tree.specs.Outcome.{insertOutcome}
+use Rattle.tree.specs.Outcome.{findOutcome, insertOutcome}
 use Rattle.tree.specs.declared.Done.{Done}
 use Rattle.tree.specs.declared.Edited.the-variants.{Made}
+use Rattle.tree.specs.declared.Found.the-variants.{At}
 use Rattle.tree.proofs.TreeLaws.{Under, parent-is, parent-less, under-parent, ancestor-under}
-use Rattle.tree.proofs.SoundLaws.{sound-steps, sound-descendants, either-left}
+use Rattle.tree.proofs.SoundLaws.{sound-steps, sound-descendants, both, either-left}
+use Rattle.tree.proofs.AxisLaws.{false-of}
 use Rattle.tree.proofs.AcceptLaws.{only-root, insert-passes}
 use Rattle.tree.proofs.ColumnLaws.{opened-new, opened-stays, changed-at, length-changed}
 use Rattle.tree.proofs.EditLaws.{gap-fits}
+use Rattle.tree.proofs.FindLaws.{find-row}
 use Rattle.after_edit.specs.Act.{insertion, rowNamed, tableAfter, doneOf}
 use Rattle.after_edit.specs.Planted.{Planted, LastChild}
 use Rattle.after_edit.proofs.ActLaws.{Fits, accepted-has, after-sound}
+use Rattle.after_edit.proofs.FoundAgain.{edited-sound}
 
 -- what g makes of a column holds at each row what g makes of that row
 map-at : (g : ℕ → ℕ) (xs : List ℕ) (i : ℕ) → i < length xs → at (map g xs) i ≡ g (at xs i)
@@ -128,9 +134,29 @@ piece-there t k p d e j l =
     accepted-has (λ (d : Done) (u : Table). Planted t (rowOf (t .key) (t .count) k) p u j (d .first + j))
     (insertion k p) t d e (λ f. after-planted t k p f j l)
 
+-- and is found there by its key
+pub piece-found : (t : Table) (k : ℕ) (p : Table) (d : Done) → insertOutcome t k p .answer ≡ Made d
+    → (j : ℕ) → j < p .count → findOutcome (insertOutcome t k p .table) (at (p .key) j) ≡ At (d .first + j)
+piece-found t k p d e j l =
+    let u : Table = insertOutcome t k p .table in
+    let w : Planted t (rowOf (t .key) (t .count) k) p u j (d .first + j) = piece-there t k p d e j l in
+    ap (findOutcome u) (sym (w .key)) ∙ find-row u (edited-sound (insertion k p) t (d, e)) (d .first + j) (w .in-use)
+
 -- the piece becomes the last child of the named row
 pub last-child : (t : Table) (k : ℕ) (p : Table) (d : Done) → insertOutcome t k p .answer ≡ Made d
     → LastChild (insertOutcome t k p .table .level) (d .count) (rowOf (t .key) (t .count) k) (d .first)
 last-child t k p d e =
     accepted-has (λ (d : Done) (u : Table). LastChild (u .level) (d .count) (rowOf (t .key) (t .count) k) (d .first))
     (insertion k p) t d e (after-last t k p)
+
+-- in steps: a last child is on the child axis of its parent's row, and has no following sibling in use
+pub last-on-axis : (level : List ℕ) (n r c : ℕ) → LastChild level n r c
+    → (onAxis 2 level r c ≡ true) × ((w : ℕ) → w < n → onAxis 10 level c w ≡ false)
+unfolding onAxis siblings
+last-on-axis level n r c h = (
+  eq-eqb (parent level c) (suc r) (h .child),
+  λ w l. false-of _ (λ e.
+      let (s, m) = both (siblings level c w) (ltb c w) e in
+      h .last w (ltb-true c w m) l
+      (eqb-true (parent level w) (parent level c) (both (ltb 0 (parent level c)) _ s .1) ∙ h .child)),
+)

@@ -1,10 +1,10 @@
--- What the cases of the small farm (Farm.antt) are made of: the farm and other tables, the calls, what they give,
--- and short forms of both.
+-- What the cases of the small farm (Farm, FarmKinds, FarmEdits, FarmRefusals) are made of: the farm and other tables,
+-- the calls, what they give, and short forms of both.
 -- Assumes nothing.
-use Prim.Native.Nat.{ℕ, zero, suc}
+use Prim.Native.Nat.{ℕ, zero, suc, _-_}
 use mathlib.Core.List.{List, [], _∷_, _++_, map}
 use lib.IntN.{ℤ}
-use lib.ListN.{replicate}
+use lib.ListN.{length, replicate}
 use Rattle.tree.specs.Table.{Table, tableOf}
 use Rattle.tree.specs.Step.{Ask, askOf}
 use Rattle.tree.specs.Outcome.{StepOutcome, EditOutcome, checkOutcome, findOutcome, stepOutcome}
@@ -131,3 +131,59 @@ both k s l d m =
     (1 ∷ 1 ∷ 1 ∷ 1 ∷ 1 ∷ 1 ∷ 1 ∷ 1 ∷ 3 ∷ 0 ∷ d ∷ 98 ∷ [])
     (1 ∷ 2 ∷ 3 ∷ 4 ∷ 2 ∷ 3 ∷ 4 ∷ 4 ∷ 0 ∷ 0 ∷ m ∷ 90 ∷ [])
     9
+
+-- ── rows of each kind, where an element and a processing instruction share the names 4 and 9 ──
+-- row 0 a document; under it the elements 1 and 7; under row 1 a text, an instruction, the element 4 with the
+-- instruction 5, and a comment; under row 7 the element 8, a cousin of rows 2, 3, 4 and 6
+abbrev pub mixed : Table
+mixed =
+    tableOf
+    (1 ∷ 2 ∷ 3 ∷ 4 ∷ 5 ∷ 6 ∷ 7 ∷ 8 ∷ 9 ∷ [])
+    (8 ∷ 5 ∷ 0 ∷ 0 ∷ 1 ∷ 0 ∷ 0 ∷ 1 ∷ 0 ∷ [])
+    (0 ∷ 1 ∷ 2 ∷ 2 ∷ 2 ∷ 3 ∷ 2 ∷ 1 ∷ 2 ∷ [])
+    (0 ∷ 1 ∷ 2 ∷ 4 ∷ 1 ∷ 4 ∷ 3 ∷ 1 ∷ 1 ∷ [])
+    (0 ∷ 4 ∷ 0 ∷ 4 ∷ 9 ∷ 9 ∷ 0 ∷ 9 ∷ 4 ∷ [])
+    9
+
+-- a step on it, with result columns of 9
+abbrev pub mixedStep : List ℕ → List ℕ → ℕ → ℕ → ℕ → Call
+mixedStep role row a t m = step mixed role row (askOf a t m) (replicate 9 77) (replicate 9 88)
+
+-- all its rows that pass a test; and from one row, the rows on an axis
+abbrev pub tested : ℕ → ℕ → Call
+tested t m = mixedStep (1 ∷ []) (0 ∷ []) 4 t m
+
+abbrev pub fromRow : ℕ → ℕ → Call
+fromRow a c = mixedStep (1 ∷ []) (c ∷ []) a 0 0
+
+-- role 1 has these rows; the kept count; and a refusal
+abbrev pub reaches : ℕ → List ℕ → Gives
+reaches kept row = lists kept (9 - length row) (map (λ w. 1) row) row
+
+abbrev pub declines : ℕ → ℕ → Gives
+declines m p = stepped (record { answer = NotListed m p; role = replicate 9 77; row = replicate 9 88 })
+
+-- ── tables and pieces for edits and refusals ──
+-- a piece of two rows, a text in an element, with a spare row
+abbrev pub twig : Table
+twig = tableOf (50 ∷ 51 ∷ 7 ∷ []) (1 ∷ 0 ∷ 7 ∷ []) (0 ∷ 1 ∷ 7 ∷ []) (1 ∷ 2 ∷ 7 ∷ []) (4 ∷ 0 ∷ 7 ∷ []) 2
+
+-- one row with this key
+abbrev pub leafOf : ℕ → Table
+leafOf k = tableOf (k ∷ []) (0 ∷ []) (0 ∷ []) (1 ∷ []) (4 ∷ []) 1
+
+-- two rows are not sound: row 1 has key 0, row 3 the key of row 2
+abbrev pub twoBad : Table
+twoBad =
+    tableOf (10 ∷ 0 ∷ 30 ∷ 30 ∷ []) (3 ∷ 0 ∷ 0 ∷ 0 ∷ []) (0 ∷ 1 ∷ 1 ∷ 1 ∷ []) (1 ∷ 1 ∷ 1 ∷ 1 ∷ [])
+    (1 ∷ 1 ∷ 1 ∷ 1 ∷ []) 4
+
+-- 64 rows, each under the one before; the last, of level 63, is a text
+abbrev pub deepText : Table
+deepText =
+    tableOf (map suc (upTo 64 [])) (downFrom 64) (upTo 64 []) (replicate 63 1 ++ (2 ∷ []))
+    (replicate 63 1 ++ (0 ∷ [])) 64
+
+-- a step on any table, with result columns of 8
+abbrev pub stepOn : Table → List ℕ → List ℕ → ℕ → ℕ → ℕ → Call
+stepOn t role row a s m = step t role row (askOf a s m) (replicate 8 77) (replicate 8 88)

@@ -89,8 +89,9 @@ cases =
     record { call = pairs [] [] 0 1 (pos 1); gives = refuses 1 0 4 4 } ∷
     record { call = pairs (5 ∷ []) [] 4097 1 (pos 0); gives = refuses 1 0 4 4 } ∷
     record { call = pairs (5 ∷ []) (4095 ∷ []) 4096 4096 (pos 0); gives = gives 3 (5 ∷ []) (4095 ∷ []) } ∷
-    -- 3, also where 17 applies; 4 before 5; 5 before 17
+    -- 3, also where 17 applies, and where 4 does; 4 before 5; 5 before 17
     record { call = pairs (5 ∷ 5 ∷ []) (1 ∷ []) 10 0 (pos 0); gives = refuses 3 0 4 4 } ∷
+    record { call = pairs (5 ∷ 4 ∷ []) (1 ∷ []) 10 1 (pos 0); gives = refuses 3 0 4 4 } ∷
     record { call = pairs (5 ∷ 5 ∷ 4 ∷ []) (10 ∷ 9 ∷ 9 ∷ []) 10 1 (pos 0); gives = refuses 4 1 4 4 } ∷
     record { call = pairs (5 ∷ 5 ∷ []) (9 ∷ 10 ∷ []) 10 0 (pos 0); gives = refuses 5 1 4 4 } ∷
     -- 17: the first moved row is 0, or above the old count; also for an empty list, and before 8

@@ -39,6 +39,10 @@ pub mod EditSizes
 pub mod EditSound
 pub mod FarmCalls
 pub mod Farm
+pub mod FarmKinds
+pub mod FarmEdits
+pub mod FarmRefusals
+pub mod FarmSpare
 pub mod FarmCarry
 pub mod Farms
 pub mod OneTreeLaws
