@@ -1,12 +1,13 @@
 -- More edits of the small farm: two rows into the middle, up to the last spare row; one row at the very end; five rows
 -- out. What may be renamed and what may have children; the level that is just too deep; the least row that is not
 -- sound; each column the shortest. One table of calls with what each gives, `cases`, and one theorem, `farm-edits`.
--- Assumes nothing.
+-- The limits are 01's: `limits`. Assumes nothing.
 use mathlib.Core.Path.{_≡_, refl}
 use mathlib.Core.List.{List, [], _∷_, map}
 use lib.IntN.{pos, negsuc}
 use Rattle.tree.specs.Search.{least, someBelow, nearest, gather}
-use Rattle.tree.specs.Table.{tableOf, shortest, countOk}
+use Rattle.tree.specs.Table.{mostRows, tableOf, shortest, countOk}
+use Rattle.tree.specs.Pairs.{mostPairs}
 use Rattle.tree.specs.Sound.{levelOk, runOf, sizeOf, sizeOk, kindOk, hasName, nameOk}
 use Rattle.tree.specs.Sound.{rowOf, keyOk, besideKeyOk, rowOk, firstBad}
 use Rattle.tree.specs.Tree.{parent, above, ancestor, otherRoot}
@@ -123,3 +124,7 @@ unfolding checkOutcome findOutcome foundIf located editIf editCheck insertOutcom
     deleted renamed minus insertDone deleteDone renameDone parent above ancestor otherRoot levelOk runOf sizeOf sizeOk
     kindOk hasName nameOk rowOf keyOk besideKeyOk rowOk firstBad shortest countOk least nearest someBelow
 farm-edits = refl
+
+-- 1 to 4,096 rows, 0 to 4,096 pairs
+pub limits : (mostRows ≡ 4096) × (mostPairs ≡ 4096)
+limits = (refl, refl)
