@@ -3,7 +3,7 @@
 -- root beside each edit that is no deletion of a root, `farms-pairs`. Each edit is accepted, and b after a; that there
 -- was room is then `needed` (NeededLaws.antt). Assumes nothing.
 use Prim.Native.Nat.{ℕ}
-use mathlib.Core.Path.{_≡_, refl}
+use mathlib.Core.Path.{refl}
 use native.Mathlib.Omega.{arith}
 use lib.IntN.{ℤ, pos, negsuc}
 use Rattle.tree.specs.Search.{least, someBelow, nearest}
@@ -31,10 +31,10 @@ done n f d = record { count = n; first = f; moved = d }
 pub farm-pairs : Independent (deletion 21) (deletion 31) farm
     × Independent (renaming 22 6) (renaming 24 6) farm
     × Independent (insertion 31 leaf) (renaming 24 6) farm
-unfolding least someBelow nearest shortest countOk levelOk runOf sizeOf sizeOk kindOk hasName nameOk rowOf keyOk besideKeyOk
-    rowOk firstBad parent above ancestor otherRoot given givenAt next tableCheck keyCheck badPiece insertCheck
-    deleteCheck renameCheck editIf editCheck insertOutcome deleteOutcome renameOutcome opened closed changed gapOf
-    inserted deleted renamed minus insertDone deleteDone renameDone
+unfolding least someBelow nearest shortest countOk levelOk runOf sizeOf sizeOk kindOk hasName nameOk rowOf keyOk
+    besideKeyOk rowOk firstBad parent above ancestor otherRoot given givenAt next tableCheck keyCheck badPiece
+    insertCheck deleteCheck renameCheck editIf editCheck insertOutcome deleteOutcome renameOutcome opened closed
+    changed gapOf inserted deleted renamed minus insertDone deleteDone renameDone
 farm-pairs = (
   needed (deletion 21) (deletion 31) farm (done 8 4 (negsuc 1), refl) (done 8 9 (negsuc 1), refl)
       (λ e. omega arith) refl refl (λ a b. omega arith) (done 6 7 (negsuc 1), refl),
@@ -48,10 +48,10 @@ farm-pairs = (
 pub farms-pairs : Independent (deletion 10) (deletion 21) farms
     × Independent (deletion 10) (insertion 30 leaf) farms
     × Independent (deletion 10) (renaming 30 6) farms
-unfolding least someBelow nearest shortest countOk levelOk runOf sizeOf sizeOk kindOk hasName nameOk rowOf keyOk besideKeyOk
-    rowOk firstBad parent above ancestor otherRoot given givenAt next tableCheck keyCheck badPiece insertCheck
-    deleteCheck renameCheck editIf editCheck insertOutcome deleteOutcome renameOutcome opened closed changed gapOf
-    inserted deleted renamed minus insertDone deleteDone renameDone
+unfolding least someBelow nearest shortest countOk levelOk runOf sizeOf sizeOk kindOk hasName nameOk rowOf keyOk
+    besideKeyOk rowOk firstBad parent above ancestor otherRoot given givenAt next tableCheck keyCheck badPiece
+    insertCheck deleteCheck renameCheck editIf editCheck insertOutcome deleteOutcome renameOutcome opened closed
+    changed gapOf inserted deleted renamed minus insertDone deleteDone renameDone
 farms-pairs = (
   needed (deletion 10) (deletion 21) farms (done 4 4 (negsuc 3), refl) (done 7 6 (negsuc 0), refl)
       (λ e. omega arith) refl refl (λ a b. omega arith) (done 3 2 (negsuc 0), refl),

@@ -23,9 +23,9 @@ use Rattle.after_edit.proofs.EitherOrder.{either-order}
 
 -- M9 deletes the row of key 21, M10 inserts a leaf under that of key 31
 pub farm-independent : Independent (deletion 21) (insertion 31 leaf) farm
-unfolding least someBelow nearest shortest countOk levelOk runOf sizeOf sizeOk kindOk hasName nameOk rowOf keyOk besideKeyOk
-    rowOk firstBad parent above ancestor otherRoot given givenAt next tableCheck keyCheck badPiece insertCheck
-    deleteCheck editIf editCheck insertOutcome deleteOutcome
+unfolding least someBelow nearest shortest countOk levelOk runOf sizeOf sizeOk kindOk hasName nameOk rowOf keyOk
+    besideKeyOk rowOk firstBad parent above ancestor otherRoot given givenAt next tableCheck keyCheck badPiece
+    insertCheck deleteCheck editIf editCheck insertOutcome deleteOutcome
 farm-independent = record {
   accepted-a = (deleteDone farm 2, refl);
   accepted-b = (insertDone farm 7 leaf, refl);
@@ -46,9 +46,9 @@ farm-same = either-order (deletion 21) (insertion 31 leaf) farm farm-independent
 -- ── several farms ──
 -- the first farm goes, and a leaf comes into the second
 pub farms-independent : Independent (deletion 10) (insertion 21 leaf) farms
-unfolding least someBelow nearest shortest countOk levelOk runOf sizeOf sizeOk kindOk hasName nameOk rowOf keyOk besideKeyOk
-    rowOk firstBad parent above ancestor otherRoot given givenAt next tableCheck keyCheck badPiece insertCheck
-    deleteCheck editIf editCheck insertOutcome deleteOutcome
+unfolding least someBelow nearest shortest countOk levelOk runOf sizeOf sizeOk kindOk hasName nameOk rowOf keyOk
+    besideKeyOk rowOk firstBad parent above ancestor otherRoot given givenAt next tableCheck keyCheck badPiece
+    insertCheck deleteCheck editIf editCheck insertOutcome deleteOutcome
 farms-independent = record {
   accepted-a = (deleteDone farms 0, refl);
   accepted-b = (insertDone farms 5 leaf, refl);
@@ -74,7 +74,7 @@ two = tableOf (1 ∷ 2 ∷ []) (0 ∷ 0 ∷ []) (0 ∷ 0 ∷ []) (1 ∷ 1 ∷ []
 pub roots-refused : Accepted (outcome (deletion 1) two) × Accepted (outcome (deletion 2) two)
     × (inTurn (deletion 1) (deletion 2) two .answer ≡ Refused 15 0)
     × (inTurn (deletion 2) (deletion 1) two .answer ≡ Refused 15 0)
-unfolding least someBelow nearest shortest countOk levelOk runOf sizeOf sizeOk kindOk hasName nameOk rowOf keyOk besideKeyOk
-    rowOk firstBad parent above ancestor otherRoot given givenAt next tableCheck keyCheck badPiece insertCheck
-    deleteCheck editIf editCheck insertOutcome deleteOutcome closed changed gapOf deleted
+unfolding least someBelow nearest shortest countOk levelOk runOf sizeOf sizeOk kindOk hasName nameOk rowOf keyOk
+    besideKeyOk rowOk firstBad parent above ancestor otherRoot given givenAt next tableCheck keyCheck badPiece
+    insertCheck deleteCheck editIf editCheck insertOutcome deleteOutcome closed changed gapOf deleted
 roots-refused = ((deleteDone two 0, refl), (deleteDone two 1, refl), refl, refl)

@@ -19,7 +19,7 @@ use Rattle.tree.specs.Refusal.{given, givenAt, next, tableCheck, keyCheck, badP
 use Rattle.tree.specs.Outcome.{editIf, editCheck, insertOutcome}
 use Rattle.tree.specs.declared.Edited.the-variants.{Made, Refused}
 use Rattle.tree.proofs.FarmCalls.{farm, leaf, leafOf, twig}
-use Rattle.after_edit.specs.Act.{Act, insertion, deletion, renaming, outcome}
+use Rattle.after_edit.specs.Act.{insertion, deletion, renaming, outcome}
 use Rattle.after_edit.specs.Independent.{Independent, inTurn}
 use Rattle.after_edit.proofs.EitherOrder.{either-order}
 use Rattle.after_edit.proofs.InUseLaws.{in-use-edit}
@@ -33,9 +33,9 @@ apart (suc i) j l m e = not-suc-le-zero (le-of-suc-le-suc l)
 
 -- a leaf under the row of key 21 and another under that of key 31: 10 rows and 2 are the 12 that the columns have
 pub leaves-independent : Independent (insertion 21 leaf) (insertion 31 (leafOf 51)) farm
-unfolding least someBelow nearest shortest countOk levelOk runOf sizeOf sizeOk kindOk hasName nameOk rowOf keyOk besideKeyOk
-    rowOk firstBad parent above ancestor otherRoot given givenAt next tableCheck keyCheck badPiece insertCheck editIf
-    editCheck insertOutcome
+unfolding least someBelow nearest shortest countOk levelOk runOf sizeOf sizeOk kindOk hasName nameOk rowOf keyOk
+    besideKeyOk rowOk firstBad parent above ancestor otherRoot given givenAt next tableCheck keyCheck badPiece
+    insertCheck editIf editCheck insertOutcome
 leaves-independent = record {
   accepted-a = (insertDone farm 2 leaf, refl);
   accepted-b = (insertDone farm 7 (leafOf 51), refl);
@@ -56,17 +56,17 @@ leaves-same = either-order (insertion 21 leaf) (insertion 31 (leafOf 51)) farm l
 -- the same key in both pieces: the second of the two is refused with 13
 pub key-refused : (inTurn (insertion 21 leaf) (insertion 31 leaf) farm .answer ≡ Refused 13 0)
     × (inTurn (insertion 31 leaf) (insertion 21 leaf) farm .answer ≡ Refused 13 0)
-unfolding least someBelow nearest shortest countOk levelOk runOf sizeOf sizeOk kindOk hasName nameOk rowOf keyOk besideKeyOk
-    rowOk firstBad parent above ancestor otherRoot given givenAt next tableCheck keyCheck badPiece insertCheck editIf
-    editCheck insertOutcome opened changed gapOf inserted
+unfolding least someBelow nearest shortest countOk levelOk runOf sizeOf sizeOk kindOk hasName nameOk rowOf keyOk
+    besideKeyOk rowOk firstBad parent above ancestor otherRoot given givenAt next tableCheck keyCheck badPiece
+    insertCheck editIf editCheck insertOutcome opened changed gapOf inserted
 key-refused = (refl, refl)
 
 -- three rows in all, where there is room for two: the second of the two is refused with 14
 pub third-refused : (inTurn (insertion 21 (leafOf 60)) (insertion 31 twig) farm .answer ≡ Refused 14 0)
     × (inTurn (insertion 31 twig) (insertion 21 (leafOf 60)) farm .answer ≡ Refused 14 0)
-unfolding least someBelow nearest shortest countOk levelOk runOf sizeOf sizeOk kindOk hasName nameOk rowOf keyOk besideKeyOk
-    rowOk firstBad parent above ancestor otherRoot given givenAt next tableCheck keyCheck badPiece insertCheck editIf
-    editCheck insertOutcome opened changed gapOf inserted
+unfolding least someBelow nearest shortest countOk levelOk runOf sizeOf sizeOk kindOk hasName nameOk rowOf keyOk
+    besideKeyOk rowOk firstBad parent above ancestor otherRoot given givenAt next tableCheck keyCheck badPiece
+    insertCheck editIf editCheck insertOutcome opened changed gapOf inserted
 third-refused = (refl, refl)
 
 -- ── the same rows in use, other spare rows ──
@@ -93,9 +93,9 @@ same-room = in-use-edit farm (spared (1 ∷ 2 ∷ [])) (same (1 ∷ 2 ∷ [])) (
 -- one column has no room: another answer
 pub less-room : (outcome (insertion 31 leaf) farm .answer ≡ Made (insertDone farm 7 leaf))
     × (outcome (insertion 31 leaf) (spared []) .answer ≡ Refused 14 0)
-unfolding least someBelow nearest shortest countOk levelOk runOf sizeOf sizeOk kindOk hasName nameOk rowOf keyOk besideKeyOk
-    rowOk firstBad parent above ancestor otherRoot given givenAt next tableCheck keyCheck badPiece insertCheck editIf
-    editCheck insertOutcome
+unfolding least someBelow nearest shortest countOk levelOk runOf sizeOf sizeOk kindOk hasName nameOk rowOf keyOk
+    besideKeyOk rowOk firstBad parent above ancestor otherRoot given givenAt next tableCheck keyCheck badPiece
+    insertCheck editIf editCheck insertOutcome
 less-room = (refl, refl)
 
 -- a deletion and a renaming get the same answer without room

@@ -28,7 +28,8 @@ use Rattle.tree.proofs.ColumnLaws.{opened-stays, opened-moves, closed-stays, cl
 use Rattle.tree.proofs.EditLaws.{gap-fits}
 use Rattle.tree.proofs.FindLaws.{find-row, find-found}
 use Rattle.tree.proofs.EditSizes.{ancestor-larger}
-use Rattle.after_edit.specs.Act.{Act, insertion, deletion, renaming, outcome, Accepted, rowNamed, tableAfter, doneOf}
+use Rattle.after_edit.specs.Act.{Act, insertion, deletion, renaming, outcome, Accepted, rowNamed}
+use Rattle.after_edit.specs.Act.{tableAfter, doneOf}
 use Rattle.after_edit.specs.Survives.{movedTo, goes, Survives}
 use Rattle.after_edit.proofs.ActLaws.{Fits, accepted-fits, accepted-table, accepted-has, after-sound}
 

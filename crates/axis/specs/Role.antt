@@ -36,15 +36,15 @@ pub record UpFor (axis : ℕ) (level : List ℕ) (n : ℕ) (up : List ℕ) : Typ
   pub roots : sideAxis axis ≡ true → Roots level n up
 
 -- an axis, trees, what the axis follows in them, contexts, an empty set and room for the rows
-pub record RoleAsk (axis : ℕ) (size level kind name : List ℕ) (n : ℕ) (up cs : List ℕ) (want : Want) (words out : List ℕ)
-    : Type 0 where
+pub record RoleAsk (axis : ℕ) (size level kind name : List ℕ) (n : ℕ) (up cs : List ℕ) (want : Want)
+    (words out : List ℕ) : Type 0 where
   pub known : axisOk axis ≡ true
   pub asks : RoleIn axis size level kind name n cs want out
   pub links : UpFor axis level n up
   pub blank : Blank words
 
 -- the rows in front of out, and the set empty again
-pub record RoleDone (axis : ℕ) (level kind name : List ℕ) (n : ℕ) (cs : List ℕ) (want : Want) (words old : List ℕ) (r : ℕ)
-    (new : List ℕ) : Type 0 where
+pub record RoleDone (axis : ℕ) (level kind name : List ℕ) (n : ℕ) (cs : List ℕ) (want : Want)
+    (words old : List ℕ) (r : ℕ) (new : List ℕ) : Type 0 where
   pub wrote : Wrote (oneRole axis level n (fits want kind name) cs) old r new
   pub blank : Blank words

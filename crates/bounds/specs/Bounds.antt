@@ -1,6 +1,6 @@
 -- Upper bounds of the number of lines of a step, by its roles and by its pairs, and what the functions that compute
--- them ask for. That they are bounds is `roles-most` (proofs/RoleBoundLaws.antt), `pairs-most` (proofs/PairBoundLaws.antt)
--- and the laws of proofs/AxisBoundLaws.antt. Assumes nothing.
+-- them ask for. That they are bounds is `roles-most` (proofs/RoleBoundLaws.antt), `pairs-most`
+-- (proofs/PairBoundLaws.antt) and the laws of proofs/AxisBoundLaws.antt. Assumes nothing.
 use Prim.Native.Nat.{ℕ, zero, suc, _+_, _<_, _≤_}
 use mathlib.Core.Bool.{cond}
 use mathlib.Core.List.{List, [], _∷_}

@@ -53,10 +53,10 @@ thenDeletes = record { count = 9; first = 4; moved = negsuc 1 }
 
 -- either order carries the pairs to the same list
 pub farm-order : carried 7 (pos 1) (carried 4 (negsuc 1) held) ≡ carried 4 (negsuc 1) (carried 9 (pos 1) held)
-unfolding least someBelow nearest shortest countOk levelOk runOf sizeOf sizeOk kindOk hasName nameOk rowOf keyOk besideKeyOk
-    rowOk firstBad parent above ancestor otherRoot given givenAt next tableCheck keyCheck badPiece insertCheck
-    deleteCheck editIf editCheck insertOutcome deleteOutcome opened closed changed gapOf inserted deleted minus
-    insertDone deleteDone
+unfolding least someBelow nearest shortest countOk levelOk runOf sizeOf sizeOk kindOk hasName nameOk rowOf keyOk
+    besideKeyOk rowOk firstBad parent above ancestor otherRoot given givenAt next tableCheck keyCheck badPiece
+    insertCheck deleteCheck editIf editCheck insertOutcome deleteOutcome opened closed changed gapOf inserted deleted
+    minus insertDone deleteDone
 farm-order =
     carry-either-order (deletion 21) (insertion 31 leaf) farm farm-independent held held-inside
     deletes thenInserts inserts thenDeletes refl refl refl refl
@@ -73,10 +73,10 @@ blade = tableOf (21 ∷ []) (0 ∷ []) (0 ∷ []) (1 ∷ []) (3 ∷ []) 1
 -- where M9 deletes key 21 and the next edit brings it back, the grant is gone, though the last table has the key
 pub farm-back : (carried 4 (pos 1) (carried 4 (negsuc 1) (pair 5 2 ∷ [])) ≡ [])
     × (refound farm (inTurn (deletion 21) (insertion 20 blade) farm .table) (pair 5 2 ∷ []) ≡ pair 5 4 ∷ [])
-unfolding least someBelow nearest shortest countOk levelOk runOf sizeOf sizeOk kindOk hasName nameOk rowOf keyOk besideKeyOk
-    rowOk firstBad parent above ancestor otherRoot given givenAt next tableCheck keyCheck badPiece insertCheck
-    deleteCheck editIf editCheck insertOutcome deleteOutcome opened closed changed gapOf inserted deleted minus
-    insertDone deleteDone carried carriedBy wasDeleted refound
+unfolding least someBelow nearest shortest countOk levelOk runOf sizeOf sizeOk kindOk hasName nameOk rowOf keyOk
+    besideKeyOk rowOk firstBad parent above ancestor otherRoot given givenAt next tableCheck keyCheck badPiece
+    insertCheck deleteCheck editIf editCheck insertOutcome deleteOutcome opened closed changed gapOf inserted deleted
+    minus insertDone deleteDone carried carriedBy wasDeleted refound
 farm-back = (refl, refl)
 
 -- ── several farms ──
@@ -101,7 +101,7 @@ farms-carried = refl
 
 -- as their keys do
 pub farms-refound : carried 4 (negsuc 3) spread ≡ refound farms (outcome (deletion 10) farms .table) spread
-unfolding least someBelow nearest shortest countOk levelOk runOf sizeOf sizeOk kindOk hasName nameOk rowOf keyOk besideKeyOk
-    rowOk firstBad parent above ancestor otherRoot given givenAt next tableCheck keyCheck deleteCheck editIf editCheck
-    deleteOutcome minus deleteDone gapOf
+unfolding least someBelow nearest shortest countOk levelOk runOf sizeOf sizeOk kindOk hasName nameOk rowOf keyOk
+    besideKeyOk rowOk firstBad parent above ancestor otherRoot given givenAt next tableCheck keyCheck deleteCheck
+    editIf editCheck deleteOutcome minus deleteDone gapOf
 farms-refound = carry-refinds (deletion 10) farms takesFirst refl spread spread-inside

@@ -1,16 +1,14 @@
--- Counting the pairs that stay: at the front none, `left-none`, one row more, `left-next`, all of them, `left-all`. Where the move does not lead towards
--- the front all stay, `left-whole`, and where all do, each does, `each-stays`. They are as many as the carried list
--- has, `left-carried`. Where the move leads to the row `to`, a row and the list in row numbers are `row-to` and
--- `carried-to`, and the list's length is `left-is`. Assumes nothing.
+-- Counting the pairs that stay: at the front none, `left-none`, one row more, `left-next`, all of them, `left-all`.
+-- Where the move does not lead towards the front all stay, `left-whole`, and where all do, each does, `each-stays`.
+-- They are as many as the carried list has, `left-carried`. Where the move leads to the row `to`, a row and the list
+-- in row numbers are `row-to` and `carried-to`, and the list's length is `left-is`. Assumes nothing.
 use mathlib.Core.Path.{_≡_, refl, sym, ap, _∙_}
-use mathlib.Core.Bool.{Bool, true, false, cond, _&&_}
+use mathlib.Core.Bool.{Bool, true, false, cond}
 use mathlib.Core.List.{List, [], _∷_, _++_}
 use Prim.Native.Nat.{ℕ, zero, suc, _+_, _<_, _≤_}
 use native.Mathlib.Numerals.{add-one}
 use native.Mathlib.Omega.{arith}
 use native.Mathlib.Decide.{decLt}
-use borrow.Author.Tests.{le-leb, lt-leb, lt-ltb, le-ltb}
-use lib.Dec.{ltb, leb}
 use lib.IntN.{ℤ, pos, _+ℤ_}
 use lib.ListN.{length, take}
 use lib.Seq.{take-suc, take-all}
@@ -20,7 +18,7 @@ use Rattle.tree.specs.Carry.{rowAfter, carriedBy, carried, moveOk}
 use Rattle.tree.specs.CarryRules.{MoveFits, newRow, goneRow}
 use Rattle.tree.proofs.RowMoveLaws.{move-ok, new-row}
 use Rattle.tree.proofs.CarryAccept.{carried-is}
-use Rattle.moves.proofs.GoneRowLaws.{between, before-it, behind-it}
+use Rattle.moves.proofs.GoneRowLaws.{before-it, behind-it}
 use Rattle.carry.specs.Left.{leftOf}
 
 module _ (to first : ℕ) where

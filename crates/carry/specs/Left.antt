@@ -79,7 +79,8 @@ pub record Puts (k : ℕ) (role row : List ℕ) (m : Move) (i n : ℕ) (oldRole 
 -- ── the first places ──
 -- the carried pairs of the first i places
 abbrev pub carriedUpTo : List ℕ → List ℕ → Move → ℕ → List Pair
-carriedUpTo role row m i = carriedBy (goneRow (m .to) (m .first)) (newRow (m .to) (m .first)) (take i (pairsOf role row))
+carriedUpTo role row m i =
+    carriedBy (goneRow (m .to) (m .first)) (newRow (m .to) (m .first)) (take i (pairsOf role row))
 
 -- a result column that begins with xs, n in number, and is as it was behind the first `left` places
 pub record Begins (xs old : List ℕ) (left n : ℕ) (new : List ℕ) : Type 0 where

@@ -1,6 +1,6 @@
--- A role with one context whose rows are on its way up: which axes these are (`lone-axis`); the context is a row in use
--- (`lone-one`, `lone-row`). On ancestor-or-self the rows are a path, `lone-selves-..`; on ancestor too, `lone-above-..`;
--- on parent they are a range of one row, `lone-parent-..`, or none. Assumes nothing.
+-- A role with one context whose rows are on its way up: which axes these are (`lone-axis`); the context is a row in
+-- use (`lone-one`, `lone-row`). On ancestor-or-self the rows are a path, `lone-selves-..`; on ancestor too,
+-- `lone-above-..`; on parent they are a range of one row, `lone-parent-..`, or none. Assumes nothing.
 use Prim.Native.Nat.{ℕ, suc, _+_, _<_, _≤_}
 use mathlib.Core.Path.{_≡_, sym, ap, ap₂, _∙_}
 use mathlib.Core.Logic.{_⊎_, inl, inr, ⊎-elim}

@@ -58,8 +58,8 @@ fn append_leaves(
     }
 }
 
-// Appends the children of row p from row `from` on and before row `end` that fit; answers how many are written then. Both
-// rows are children of p, or the end of its descendants.
+// Appends the children of row p from row `from` on and before row `end` that fit; answers how many are written then.
+// Both rows are children of p, or the end of its descendants.
 pub fn append_children(
     size: &[usize],
     level: &[usize],

@@ -1,5 +1,6 @@
 -- The outcome of an edit by key, by what the calls on the way answered: `table-refused`, `key-refused`,
--- `insert-found`, `delete-found`, `rename-found`, with `passed-key` and `known` for the calls on the way. Assumes nothing.
+-- `insert-found`, `delete-found`, `rename-found`, with `passed-key` and `known` for the calls on the way. Assumes
+-- nothing.
 use mathlib.Core.Path.{_≡_, refl, ap, subst, _∙_}
 use mathlib.Core.Bool.{Bool, true, false, cond, not}
 use Prim.Native.Nat.{ℕ, _<_, _≤_}

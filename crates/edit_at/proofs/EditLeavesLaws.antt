@@ -38,6 +38,7 @@ module _ {a a′ : Edited} {k s l c m k′ s′ l′ c′ m′ : List ℕ} (t : 
       → Same a k s l c m a′ k′ s′ l′ c′ m′
   delete-only = leaves-only
 
-  pub rename-only : (n : ℕ) → EditLeaves (renameOutcome t x n) a k s l c m → EditLeaves (renameOutcome t x n) a′ k′ s′ l′ c′ m′
+  pub rename-only : (n : ℕ) → EditLeaves (renameOutcome t x n) a k s l c m
+      → EditLeaves (renameOutcome t x n) a′ k′ s′ l′ c′ m′
       → Same a k s l c m a′ k′ s′ l′ c′ m′
   rename-only n = leaves-only

@@ -129,8 +129,9 @@ module _ (t : Table) (a : Ask) (up role row : List ℕ) (s : StepReady t a up ro
     pub counted-more : Counted t a role row words′ scratch′ (total + r) j
     counted-more =
         let many : r ≡ length (roleRows t a (runRows row i j)) = d .wrote .many in
-        let lines = ap length (step-at i j e) ∙ length-append (withRole (at role i) (roleRows t a (runRows row i j))) _ in
-        let one = length-role (at role i) (roleRows t a (runRows row i j)) in
+        let rows : List ℕ = roleRows t a (runRows row i j) in
+        let lines = ap length (step-at i j e) ∙ length-append (withRole (at role i) rows) _ in
+        let one = length-role (at role i) rows in
         let k = e .after in
         record {
           within = e .within;

@@ -186,7 +186,8 @@ pub fn write_all(
         ask (now (role .entry)) (now (row .entry))
         (now («out_role» .entry)) (now («out_row» .entry)) (r .listed)
         (now («out_role» .exit)) (now («out_row» .exit)) ⌝ }
-    ensures { λ r. ⌜ r .kept ≡ keptCount (ask .axis) (now (level .entry)) (pairsOf (now (role .entry)) (now (row .entry))) ⌝ }
+    ensures { λ r. ⌜ r .kept ≡ keptCount (ask .axis) (now (level .entry))
+        (pairsOf (now (role .entry)) (now (row .entry))) ⌝ }
 {
     let want = want_of(ask);
     let mut words = [0u64; 64];

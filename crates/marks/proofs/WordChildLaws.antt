@@ -20,7 +20,8 @@ use Rattle.marks.specs.RowSet.{bit, inWord}
 use Rattle.marks.specs.Mark.{childIn, Gathers, Gathered}
 use Rattle.marks.proofs.BitLaws.{bit-zero, bit-nonzero}
 use Rattle.marks.proofs.RowSetLaws.{bit-with}
-use Rattle.marks.proofs.ChildWalkLaws.{row-in-use, child-next, child-none, child-empty, ChildIn, child-in, in-child}
+use Rattle.marks.proofs.ChildWalkLaws.{row-in-use, child-next, child-none, child-empty}
+use Rattle.marks.proofs.ChildWalkLaws.{ChildIn, child-in, in-child}
 
 -- a word that is 0 has no row
 word-zero : (base w : ℕ) → inWord base 0 w ≡ false

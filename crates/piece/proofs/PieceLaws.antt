@@ -1,7 +1,7 @@
--- The checks of an insertion, in their order. Of one check: `given-is`; of two: `next-refused`, `next-on`. Of a search: `some-at`,
--- `some-none`. Of the piece alone: `piece-refused`, `piece-passed`, `piece-rows`, `piece-sound`. Of the piece under
--- the row, a law for each answer: `refused-bad`, `refused-parent`, `refused-deep`, `refused-taken`,
--- `refused-full`, `passed-all`. Assumes nothing.
+-- The checks of an insertion, in their order. Of one check: `given-is`; of two: `next-refused`, `next-on`. Of a
+-- search: `some-at`, `some-none`. Of the piece alone: `piece-refused`, `piece-passed`, `piece-rows`, `piece-sound`.
+-- Of the piece under the row, a law for each answer: `refused-bad`, `refused-parent`, `refused-deep`,
+-- `refused-taken`, `refused-full`, `passed-all`. Assumes nothing.
 use mathlib.Core.Path.{_≡_, refl, sym, ap, ap₂, _∙_}
 use mathlib.Core.Bool.{Bool, true, false, cond, not, _||_}
 use Prim.Native.Nat.{ℕ, _+_, _<_, _≤_}

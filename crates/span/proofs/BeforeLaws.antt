@@ -171,7 +171,8 @@ module _ {size level : List ℕ} {n : ℕ} {cs top : List ℕ} (sh : Shape size 
     }
 
 -- what the scan of a range asks for
-pub before-asks : {size level kind name : List ℕ} {n : ℕ} {want : Want} {cs d top out₀ out : List ℕ} {i j next₀ next w o : ℕ}
+pub before-asks : {size level kind name : List ℕ} {n : ℕ} {want : Want}
+    {cs d top out₀ out : List ℕ} {i j next₀ next w o : ℕ}
     (pre : RoleIn 9 size level kind name n cs want d) (roots : Roots level n top) (m : i < length cs)
     (q : PastTree cs i (at top (at cs i) + at size (at top (at cs i)) + 1) j)
     → Behind level n (fits want kind name) cs d top out₀ next₀ i

@@ -187,7 +187,8 @@ module _ {from : ℕ} {f : ℕ → Bool} {k : ℕ} {d : List ℕ} {written : ℕ
 
 -- ── a range, scanned as a part of the columns ──
 -- k places of a part are the rows of the range, and pass the part's test exactly if they fit
-module _ {kind name out : List ℕ} {from to written : ℕ} {want : Want} (asks : RangeIn kind name from to want out written)
+module _ {kind name out : List ℕ} {from to written : ℕ} {want : Want}
+    (asks : RangeIn kind name from to want out written)
     {g : ℕ → Bool} {k : ℕ} (count : k ≡ to - from)
     (same : (i : ℕ) → i < to - from → g i ≡ fits want kind name (from + i)) where
   range-rows : rowsFrom from g k ≡ rowsIn (fits want kind name) from to
@@ -221,7 +222,8 @@ rows-one f from to l m =
     ∙ ap (λ (xs : List ℕ). xs ++ only (f (from + 0)) (from + 0)) (rows-none from (λ k. f (from + k)))
     ∙ ap (λ (w : ℕ). only (f w) w) (add-zero from)
 
-module _ {kind name out : List ℕ} {from to written : ℕ} {want : Want} (asks : RangeIn kind name from to want out written) where
+module _ {kind name out : List ℕ} {from to written : ℕ} {want : Want}
+    (asks : RangeIn kind name from to want out written) where
   -- no row
   pub one-none : to ≤ from → Appended (rowsIn (fits want kind name) from to) out written written out
   one-none l = appended-as (sym (rows-empty (fits want kind name) from to l)) (appended-none out written)

@@ -79,13 +79,16 @@ module _ (want : Want) (kind name : List ℕ) (w : ℕ) where
 
   -- any kind and any name are right
   pub fits-any : want .kind ≡ 5 → want .name ≡ 0 → true ≡ fits want kind name w
-  fits-any k z = sym (fits-free (ap (λ (b : Bool). b || eqb (at kind w) (want .kind)) (eq-eqb (want .kind) 5 k)) z ∙ eq-eqb (want .name) 0 z)
+  fits-any k z =
+      sym (fits-free (ap (λ (b : Bool). b || eqb (at kind w) (want .kind)) (eq-eqb (want .kind) 5 k)) z
+      ∙ eq-eqb (want .name) 0 z)
 
   -- any name is right
   pub fits-kind : (want .kind ≡ 5 → ⊥) → want .name ≡ 0 → eqb (at kind w) (want .kind) ≡ fits want kind name w
   unfolding fits
   fits-kind k z =
-      sym (ap₂ (λ (a b : Bool). (a || eqb (at kind w) (want .kind)) && (b || eqb (at name w) (want .name))) (ne-eqb (want .kind) 5 k) (eq-eqb (want .name) 0 z)
+      sym (ap₂ (λ (a b : Bool). (a || eqb (at kind w) (want .kind)) && (b || eqb (at name w) (want .name)))
+      (ne-eqb (want .kind) 5 k) (eq-eqb (want .name) 0 z)
       ∙ and-true (eqb (at kind w) (want .kind)))
 
 -- ── the test at a place of a part of the columns ──
@@ -102,7 +105,8 @@ module _ (want : Want) (kind name : List ℕ) (from k i : ℕ) (l : i < k) where
 
   pub fits-part-kind : (want .kind ≡ 5 → ⊥) → want .name ≡ 0
       → eqb (at (take k (drop from kind)) i) (want .kind) ≡ fits want kind name (from + i)
-  fits-part-kind h z = ap (λ (a : ℕ). eqb a (want .kind)) (part-at kind from k i l) ∙ fits-kind want kind name (from + i) h z
+  fits-part-kind h z =
+      ap (λ (a : ℕ). eqb a (want .kind)) (part-at kind from k i l) ∙ fits-kind want kind name (from + i) h z
 
 -- ── 01's test ──
 -- without a name to ask for, the first half decides

@@ -1,5 +1,5 @@
 -- What one role reaches, and what the functions that find it ask for and leave. The contexts of one role are a part of
--- the row column. That the lines of a step are these, role by role, is in step/proofs/RunLaws.antt. Assumes nothing.
+-- the row column. That the lines of a step are these, role by role, is in lines/proofs/RunLaws.antt. Assumes nothing.
 use Prim.Native.Nat.{ℕ, suc, _<_, _≤_}
 use mathlib.Core.Path.{_≡_}
 use mathlib.Core.Bool.{Bool, false, _&&_, _||_}

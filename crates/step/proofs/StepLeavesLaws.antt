@@ -55,7 +55,8 @@ module _ (t : Table) (a : Ask) (role row outRole outRow : List ℕ) where
       step-check ∙ ap (λ (x : Checked). next x (roomCheck (length lines) outRole outRow)) e in
       rw c (record { answers = refl; role-is = refl; row-is = refl })
 
-  room-check : CallChecked t a role row → stepCheck t role row a outRole outRow ≡ roomCheck (length lines) outRole outRow
+  room-check : CallChecked t a role row
+      → stepCheck t role row a outRole outRow ≡ roomCheck (length lines) outRole outRow
   unfolding next
   room-check k =
       step-check

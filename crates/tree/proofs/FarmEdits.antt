@@ -5,7 +5,7 @@
 use mathlib.Core.Path.{_≡_, refl}
 use mathlib.Core.List.{List, [], _∷_, map}
 use lib.IntN.{pos, negsuc}
-use Rattle.tree.specs.Search.{least, someBelow, nearest, gather}
+use Rattle.tree.specs.Search.{least, someBelow, nearest}
 use Rattle.tree.specs.Table.{mostRows, tableOf, shortest, countOk}
 use Rattle.tree.specs.Pairs.{mostPairs}
 use Rattle.tree.specs.Sound.{levelOk, runOf, sizeOf, sizeOk, kindOk, hasName, nameOk}

@@ -111,8 +111,8 @@ pub farm-of-kinds : map (λ c. run (c .call)) cases ≡ map (λ c. c .gives) cas
 unfolding checkOutcome stepOutcome stepIf stepCheck overwritten given givenAt next tableCheck pairCheck askCheck
     roomCheck drops remaining keptCount listed reached linesOf stepList pairsOf withRole rolesOf rowsOf before
     outOfOrder some distinct testOk passes axisOk following preceding onAxis parent above ancestor siblings root
-    sameTree levelOk runOf sizeOf sizeOk kindOk hasName nameOk rowOf keyOk besideKeyOk rowOk firstBad shortest countOk least
-    nearest gather
+    sameTree levelOk runOf sizeOf sizeOk kindOk hasName nameOk rowOf keyOk besideKeyOk rowOk firstBad shortest countOk
+    least nearest gather
 farm-of-kinds = refl
 
 -- a code that does not exist: no row passes the test, none is on the axis

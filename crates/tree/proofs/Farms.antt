@@ -270,8 +270,8 @@ unfolding checkOutcome findOutcome foundIf located stepOutcome stepIf stepCheck 
     deleteDone renameDone drops remaining keptCount listed reached linesOf stepList pairsOf withRole rolesOf rowsOf
     before outOfOrder some distinct testOk passes axisOk following preceding onAxis parent above ancestor siblings root
     sameTree otherRoot
-    levelOk runOf sizeOf sizeOk kindOk hasName nameOk rowOf keyOk besideKeyOk rowOk firstBad shortest countOk least nearest
-    someBelow gather
+    levelOk runOf sizeOf sizeOk kindOk hasName nameOk rowOf keyOk besideKeyOk rowOk firstBad shortest countOk least
+    nearest someBelow gather
 several-farms = refl
 
 -- preceding on each farm by itself: what it lists and keeps, and that the whole call above has the sums

@@ -39,7 +39,8 @@ carried first moved ps = carriedBy (wasDeleted first moved) (λ w. natAbs (rowAf
 unfoldable pub oldCountOk : ℕ → Bool
 oldCountOk old = leb 1 old && leb old mostRows
 
--- the first moved row is 1 to the old count and not below 0 once the move is added, and the new count is 1 to `mostRows`
+-- the first moved row is 1 to the old count and not below 0 once the move is added, and the new count is 1 to
+-- `mostRows`
 unfoldable pub moveOk : ℕ → ℕ → ℤ → Bool
 moveOk old first moved =
     leb 1 first && leb first old && leZ (pos 0) (pos first +ℤ moved)

@@ -9,7 +9,8 @@ use Rattle.tree.specs.Table.{Table, tableOf, at}
 use Rattle.tree.specs.Rules.{Sound}
 use Rattle.tree.specs.Refusal.{badPiece}
 use Rattle.tree.specs.declared.Checked.the-variants.{Refused}
-use Rattle.piece.proofs.PieceLaws.{deep, taken, piece-sound, refused-bad, refused-parent, refused-deep, refused-taken}
+use Rattle.piece.proofs.PieceLaws.{deep, taken, piece-sound, refused-bad, refused-parent, refused-deep}
+use Rattle.piece.proofs.PieceLaws.{refused-taken}
 use Rattle.piece.proofs.PieceLaws.{refused-full, passed-all}
 use borrow.Author.Needs.{needs}
 use Rattle.piece.proofs.check_piece.Statement.{statement}

@@ -1,4 +1,5 @@
--- `carry::writing::put_pair` meets its contract: what it writes is the pair, with its row's new number. Assumes nothing.
+-- `carry::writing::put_pair` meets its contract: what it writes is the pair, with its row's new number. Assumes
+-- nothing.
 use native.Mathlib.Omega.{arith}
 use mir.Syntax.{w64}
 use mir.Facts.{toZ-ofZ}

@@ -1,5 +1,5 @@
--- `direct::above::rows_above` meets its contract. The invariant, `Ascent`: the rows reached below the floor are written,
--- the rows of the first i contexts are below it, and it is not past the others. Assumes nothing.
+-- `direct::above::rows_above` meets its contract. The invariant, `Ascent`: the rows reached below the floor are
+-- written, the rows of the first i contexts are below it, and it is not past the others. Assumes nothing.
 use Prim.Native.Nat.{_-_, _<_, _≤_}
 use native.Mathlib.Omega.{arith}
 use borrow.Author.Needs.{needs}

@@ -1,5 +1,5 @@
--- `direct::earlier::append_earlier` meets its contract: the earlier siblings of a row are children of its parent. Assumes
--- nothing.
+-- `direct::earlier::append_earlier` meets its contract: the earlier siblings of a row are children of its parent.
+-- Assumes nothing.
 use mathlib.Core.Path.{refl}
 use native.Mathlib.Omega.{arith}
 use borrow.Author.Needs.{needs}

@@ -85,7 +85,8 @@ loop-again c =
           (λ j l. omega (arith, inv .2 j l, c .if2 .left)),
       below-more (λ (j : ℕ). at up (at rows j) ≤ at up (at rows (s .loop .k))) (s .loop .k)
           (λ j l. omega (arith, inv .2 j l, c .if2 .left)) (omega arith),
-      λ l. (omega arith, ap (λ (j : ℕ). at up (at rows j)) (let e : s .loop .k ≡ s .loop .k + 1 - 1 = omega arith in e)),
+      λ l. let e : s .loop .k ≡ s .loop .k + 1 - 1 = omega arith in
+          (omega arith, ap (λ (j : ℕ). at up (at rows j)) e),
     )
 
 returns-3 : tie.Need-returns-3 Inv-loop μ-loop

@@ -24,7 +24,9 @@ returns-3 c =
     (omega (arith, t .before .if2 .left, other)) (omega (arith, t .if3 .taken)))
 
 returns-4 : tie.Need-returns-4
-returns-4 c = sym (lone-other _ _ _ (c .before .before .if1 .left) (c .before .match .rest .1) (inl (omega (arith, c .if2 .taken))))
+returns-4 c =
+    sym (lone-other _ _ _ (c .before .before .if1 .left) (c .before .match .rest .1)
+    (inl (omega (arith, c .if2 .taken))))
 
 returns-5 : tie.Need-returns-5
 returns-5 c =

@@ -1,4 +1,5 @@
--- `marks::mark::children_of` meets its contract: the laws of the axis, over what `add-children` leaves. Assumes nothing.
+-- `marks::mark::children_of` meets its contract: the laws of the axis, over what `add-children` leaves. Assumes
+-- nothing.
 use native.Mathlib.Omega.{arith}
 use borrow.Author.Needs.{needs}
 use Rattle.marks.proofs.ContextLaws.{turn-fits}

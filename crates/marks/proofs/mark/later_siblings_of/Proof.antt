@@ -1,4 +1,5 @@
--- `marks::mark::later_siblings_of` meets its contract: the laws of the axis, over what `add-children` leaves. Assumes nothing.
+-- `marks::mark::later_siblings_of` meets its contract: the laws of the axis, over what `add-children` leaves. Assumes
+-- nothing.
 use native.Mathlib.Omega.{arith}
 use borrow.Author.Needs.{needs}
 use Rattle.marks.proofs.ContextLaws.{turn-row, turn-fits, turn-root, turn-parent, parent-fits}
@@ -82,7 +83,8 @@ add-children-requires c κs =
 returns-2 : tie.Need-returns-2
 returns-2 c =
     let h = c .before .before .before .before .before .before .before .before .before .before .pre in
-    later-done (h .0) _ (turn-parent (h .0) (h .1) (c .before .before .before .before .if1 .left)) (c .add-children .ensures)
+    later-done (h .0) _ (turn-parent (h .0) (h .1) (c .before .before .before .before .if1 .left))
+    (c .add-children .ensures)
 
 pub later-siblings-of-spec : {M : Type 1} → statement M
 later-siblings-of-spec =

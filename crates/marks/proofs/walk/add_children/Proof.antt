@@ -1,5 +1,5 @@
--- `marks::walk::add_children` meets its contract. The loop's invariant, `ChildrenAdded`: the children before row w are in, and w is
--- the next child, or not before the end. Assumes nothing.
+-- `marks::walk::add_children` meets its contract. The loop's invariant, `ChildrenAdded`: the children before row w
+-- are in, and w is the next child, or not before the end. Assumes nothing.
 use Prim.Native.Nat.{_-_}
 use mathlib.Core.Path.{sym, _∙_}
 use native.Mathlib.Omega.{arith}
@@ -10,7 +10,8 @@ use Rattle.marks.proofs.walk.add_children.Statement.{statement}
 use Rattle.marks.proofs.walk.add_children.Tie as tie
 
 abbrev Inv-loop : tie.InvT-loop
-Inv-loop size level count p from end words₀ used mark₀ w₀ words mark w = ChildrenAdded level p from end words₀ words mark w
+Inv-loop size level count p from end words₀ used mark₀ w₀ words mark w =
+    ChildrenAdded level p from end words₀ words mark w
 
 abbrev μ-loop : tie.MeasureT-loop
 μ-loop size level count p from end words₀ used mark₀ w₀ words mark w = end - w

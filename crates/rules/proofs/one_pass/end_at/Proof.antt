@@ -1,4 +1,5 @@
--- `rules::one_pass::end_at` meets its contract. The levels from low up to l have been seen to end there. Assumes nothing.
+-- `rules::one_pass::end_at` meets its contract. The levels from low up to l have been seen to end there. Assumes
+-- nothing.
 use Prim.Native.Nat.{ℕ, _+_, _-_, _≤_, _<_}
 use mathlib.Core.Path.{_≡_, sym}
 use mathlib.Core.Bool.{true≢false}

@@ -20,7 +20,8 @@ smaller-requires c κs = search needs
 returns : tie.Need-returns
 unfolding firstBad firstBadBesideKey firstKey rowOk
 returns c =
-    simp (c .smaller .ensures, c .before .first-key .ensures, c .before .before .first-bad-beside-key .ensures, least-both)
+    let rest = c .before .before .first-bad-beside-key .ensures in
+    simp (c .smaller .ensures, c .before .first-key .ensures, rest, least-both)
 
 pub first-bad-spec : {M : Type 1} → statement M
 first-bad-spec =

@@ -35,7 +35,9 @@ first c =
     (c .if1 .came)
 
 returns : tie.Need-returns
-returns c = sym (fits-free _ _ _ _ (sym (first (c .before .before .before)) ∙ c .before .before .if2 .taken) (c .if3 .taken))
+returns c =
+    let t = c .before .before in
+    sym (fits-free _ _ _ _ (sym (first (t .before)) ∙ t .if2 .taken) (c .if3 .taken))
 
 returns-2 : tie.Need-returns-2
 returns-2 c =
