@@ -6,7 +6,7 @@ use mathlib.Core.Path.{_≡_, refl, sym, ap, ap₂, _∙_}
 use mathlib.Core.Logic.{⊎-elim}
 use mathlib.Core.Bool.{Bool, true, false, _&&_, _||_, or-false}
 use mathlib.Core.List.{List, [], _++_, append-nil, append-assoc}
-use native.Mathlib.Nat.{le-refl, eq-or-lt-of-le}
+use native.Mathlib.Nat.{eq-or-lt-of-le}
 use native.Mathlib.Omega.{arith}
 use borrow.Rule.Slice.PartMut.{midOf, putMid}
 use lib.ListN.{length, take, drop, length-append, length-take, length-drop, take-append-drop}
@@ -16,9 +16,9 @@ use Rattle.tree.specs.Search.{gather}
 use Rattle.tree.specs.Tree.{parent}
 use Rattle.tree.specs.Axis.{onAxis}
 use Rattle.tree.specs.Rules.{Shape}
-use Rattle.tree.proofs.TreeLaws.{less?, parent-below, from-parent}
+use Rattle.tree.proofs.TreeLaws.{parent-below}
 use Rattle.tree.proofs.SearchLaws.{gather-zero, gather-skip, gather-ext}
-use Rattle.tree.proofs.SoundLaws.{shape-steps, shape-fits}
+use Rattle.tree.proofs.SoundLaws.{shape-fits}
 use Rattle.tree.proofs.AxisLaws.{false-of}
 use Rattle.span.specs.Want.{fits}
 use Rattle.span.specs.Range.{rowsIn, PastTree}
@@ -29,7 +29,7 @@ use Rattle.span.proofs.RangeLaws.{contexts-rise, any-miss}
 use Rattle.span.proofs.SideLaws.{nests}
 use Rattle.axis.specs.Later.{LaterEnd}
 use Rattle.marks.proofs.MarkLaws.{any-append}
-use Rattle.marks.proofs.ChildWalkLaws.{in-under, child-within}
+use Rattle.marks.proofs.ChildWalkLaws.{in-parent, child-within}
 use Rattle.marks.proofs.SiblingLaws.{later-on}
 use Rattle.marks.proofs.LaterLaws.{later-parent}
 use Rattle.span.specs.declared.want.Want.{Want}
@@ -52,9 +52,6 @@ module _ {size level : List ℕ} {n : ℕ} (s : Shape size level n) {c e : ℕ} 
   pub reach-before : (d w : ℕ) → c ≤ d → d < e → w < n → onAxis 10 level d w ≡ true → w < e
   reach-before d w a b l t = go (parent level c) refl (parent level d) refl
     where
-      m : d < n
-      m = omega (arith, reach-end .1)
-
       -- the parent of d is that of c, or below it
       go : (q : ℕ) → parent level c ≡ q → (r : ℕ) → parent level d ≡ r → w < e
       go q z zero y = absurd (omega (arith, later-on level d w t .0 .some))
@@ -68,17 +65,11 @@ module _ {size level : List ℕ} {n : ℕ} (s : Shape size level n) {c e : ℕ} 
           let i : w ≤ r + at size r = child-within s r w l (later-on level d w t .0 .same ∙ y) in
           let pn : p < n = later-parent s c p here z in
           let f : r < d = parent-below level d r y in
+          let u : p ≤ r = omega (arith, in-parent s p d pn (omega arith) (omega arith)) in
           ⊎-elim
-          (λ (u : r < p). absurd (omega (
-            arith,
-            from-parent level n (shape-steps s) d m p (omega arith) (omega arith),
-            in-under s p d pn (omega arith) (omega arith) .deeper d (omega arith) (le-refl d),
-          )))
-          (λ (u : p ≤ r). ⊎-elim
           (λ (v : p ≡ r). let k = ap (at size) v in omega arith)
           (λ (v : p < r). omega (arith, nests s .within p r pn v (omega arith)))
-          (eq-or-lt-of-le u))
-          (less? r p)
+          (eq-or-lt-of-le u)
 
 -- ── rows that lie apart ──
 -- those that pass f, all below m, and then those that pass g, none below m

@@ -17,8 +17,7 @@ use Rattle.tree.specs.Table.{at}
 use Rattle.tree.specs.Tree.{parent}
 use Rattle.tree.specs.Axis.{onAxis}
 use Rattle.tree.specs.Rules.{Shape}
-use Rattle.tree.proofs.TreeLaws.{less?, parent-below, from-parent}
-use Rattle.tree.proofs.SoundLaws.{shape-steps}
+use Rattle.tree.proofs.TreeLaws.{less?, parent-below}
 use Rattle.tree.proofs.AxisLaws.{same-test, false-of}
 use Rattle.span.specs.Want.{fits}
 use Rattle.span.specs.OneRole.{anyOn, oneRole, RoleIn, Parents, Wrote}
@@ -27,7 +26,7 @@ use Rattle.span.proofs.AppendedLaws.{appended-as, appended-none}
 use Rattle.span.proofs.ScanLaws.{rows-cut, rows-skip, rows-same}
 use Rattle.span.proofs.RangeLaws.{contexts-rise, any-hit, any-miss, Covered, cover-start, cover-done}
 use Rattle.span.proofs.RangeLaws.{part-room, cover-part}
-use Rattle.marks.proofs.ChildWalkLaws.{in-under, child-within, child-first}
+use Rattle.marks.proofs.ChildWalkLaws.{in-parent, child-within, child-first}
 use Rattle.marks.proofs.SiblingLaws.{earlier-on, on-earlier}
 use Rattle.direct.specs.Children.{childThat, ChildrenIn}
 use Rattle.direct.specs.Earlier.{earlierFrom, EarlierIn, ParentsRise}
@@ -36,16 +35,8 @@ use Rattle.span.specs.declared.want.Want.{Want}
 -- a row between a row and its parent has no parent before that one
 inner-parent : {size level : List ℕ} {n : ℕ} → Shape size level n → (c p d : ℕ) → c < n → parent level c ≡ suc p
     → p < d → d ≤ c → suc p ≤ parent level d
-inner-parent {level = level} {n} s c p d l e a b = ⊎-elim
-    (λ (x : parent level d < suc p).
-    let u = in-under s p d (omega (arith, parent-below level c p e)) a (omega (arith, child-within s p c l e)) in
-    absurd (omega (
-      arith,
-      from-parent level n (shape-steps s) d (omega arith) p (omega arith) a,
-      u .deeper d a (le-refl d),
-    )))
-    (λ x. x)
-    (less? (parent level d) (suc p))
+inner-parent {level = level} s c p d l e a b =
+    in-parent s p d (omega (arith, parent-below level c p e)) a (omega (arith, child-within s p c l e))
 
 -- ── the earlier siblings of a row ──
 module _ {size level kind name up : List ℕ} {n v c : ℕ} {want : Want} {out : List ℕ} {written : ℕ}

@@ -1,14 +1,25 @@
-// Insertion, deletion and rename by key: document 01, "Finding and editing by key". Each call checks the table, finds
-// the row of its key and hands over to the edit at that row; a refusal leaves all columns as they were.
+// Insertion, deletion and rename by key: document 01, "Finding and editing by key". Each call finds the row of its key
+// in the table, which checks it, and hands over to the edit at that row; a refusal leaves all columns as they were.
+ghost use mathlib.Core.Path.{_≡_};
 ghost use Rattle.tree.specs.Table.{tableOf};
 ghost use Rattle.tree.specs.Outcome.{insertOutcome, deleteOutcome, renameOutcome};
 ghost use Rattle.edit_at.specs.EditLeaves.{EditLeaves};
+ghost use Rattle.edit.specs.SearchRefusal.{refusalOf};
 use edit_at::deletion;
 use edit_at::insertion;
 use edit_at::renaming;
-use tree::Checked;
 use tree::Edited;
 use tree::Found;
+
+// The refusal of a search, as an edit's: 1, 2 or 9, with its place. Asked only where no row was found.
+fn refused(found: Found) -> Edited
+    ensures { λ r. ⌜ r ≡ refusalOf found ⌝ }
+{
+    match found {
+        Found::Refused(number, place) => Edited::Refused(number, place),
+        Found::At(_) => Edited::Refused(9, 0),
+    }
+}
 
 // A piece becomes the last child of the row of a key, or refusal 1, 2, 9, 10, 11, 12, 13 or 14.
 pub fn insert(
@@ -33,12 +44,9 @@ pub fn insert(
         (now («p_name» .entry)) «p_count»)) r
         (now (key .exit)) (now (size .exit)) (now (level .exit)) (now (kind .exit)) (now (name .exit)) ⌝ }
 {
-    let checked = table::check(key, size, level, kind, name, count);
-    if let Checked::Refused(number, place) = checked {
-        return Edited::Refused(number, place);
-    }
-    let Found::At(row) = table::locate(key, count, parent) else {
-        return Edited::Refused(9, 0);
+    let found = table::find(key, size, level, kind, name, count, parent);
+    let Found::At(row) = found else {
+        return refused(found);
     };
     insertion::insert_at(
         key,
@@ -72,12 +80,9 @@ pub fn delete(
         (now (name .entry)) count) wanted) r
         (now (key .exit)) (now (size .exit)) (now (level .exit)) (now (kind .exit)) (now (name .exit)) ⌝ }
 {
-    let checked = table::check(key, size, level, kind, name, count);
-    if let Checked::Refused(number, place) = checked {
-        return Edited::Refused(number, place);
-    }
-    let Found::At(row) = table::locate(key, count, wanted) else {
-        return Edited::Refused(9, 0);
+    let found = table::find(key, size, level, kind, name, count, wanted);
+    let Found::At(row) = found else {
+        return refused(found);
     };
     deletion::delete_at(key, size, level, kind, name, count, row)
 }
@@ -98,12 +103,9 @@ pub fn rename(
         (now (name .entry)) count) wanted «new_name») r
         (now (key .exit)) (now (size .exit)) (now (level .exit)) (now (kind .exit)) (now (name .exit)) ⌝ }
 {
-    let checked = table::check(key, size, level, kind, name, count);
-    if let Checked::Refused(number, place) = checked {
-        return Edited::Refused(number, place);
-    }
-    let Found::At(row) = table::locate(key, count, wanted) else {
-        return Edited::Refused(9, 0);
+    let found = table::find(key, size, level, kind, name, count, wanted);
+    let Found::At(row) = found else {
+        return refused(found);
     };
     renaming::rename_at(key, size, level, kind, name, count, row, new_name)
 }

@@ -1,7 +1,8 @@
 -- The children of a row in rows whose levels and sizes make a tree, met by hops over subtrees: `child-within`,
 -- `child-first`, `child-next`, `child-none`, `child-empty`. The walk that puts them into a set, word by word:
 -- `walk-start`, `walk-gathers`, `walk-next`, `walk-done`, and where it has nothing to do, `walk-nothing`, `walk-met`.
--- Its rows are in use: `row-in-use`; and below the row: `in-under`. Assumes nothing.
+-- Its rows are in use: `row-in-use`; below the row: `in-under`; and have no parent before it: `in-parent`. Assumes
+-- nothing.
 use Prim.Native.Nat.{ℕ, suc, _+_, _*_, _/_, _<_, _≤_}
 use mathlib.Core.Path.{_≡_, refl, sym, ap, _∙_}
 use mathlib.Core.Logic.{_⊎_, ⊎-elim}
@@ -15,7 +16,8 @@ use lib.Dec.{eqb, ltb, leb}
 use Rattle.tree.specs.Table.{at}
 use Rattle.tree.specs.Tree.{parent}
 use Rattle.tree.specs.Rules.{Shape}
-use Rattle.tree.proofs.TreeLaws.{Under, less?, parent-is, parent-less, parent-below, under-parent, ancestor-under}
+use Rattle.tree.proofs.TreeLaws.{Under, less?, parent-is, parent-less, parent-below, from-parent}
+use Rattle.tree.proofs.TreeLaws.{under-parent, ancestor-under}
 use Rattle.tree.proofs.SoundLaws.{shape-steps, shape-descendants, shape-fits}
 use Rattle.tree.proofs.SoundLaws.{both, both-of, either, either-left, either-right}
 use Rattle.tree.proofs.AxisLaws.{same-test}
@@ -34,6 +36,19 @@ module _ {size level : List ℕ} {n : ℕ} (s : Shape size level n) where
   in-under c w m a b =
       let l : w < n = omega (arith, shape-fits s c m) in
       ancestor-under level n (shape-steps s) c w l .0 (shape-descendants s c w m l .1 (a, b))
+
+  -- none of these rows has a parent before the row
+  pub in-parent : (p d : ℕ) → p < n → p < d → d ≤ p + at size p → suc p ≤ parent level d
+  in-parent p d m a b = ⊎-elim
+      (λ (x : parent level d < suc p).
+      let l : d < n = omega (arith, shape-fits s p m) in
+      absurd (omega (
+        arith,
+        from-parent level n (shape-steps s) d l p (omega arith) a,
+        in-under p d m a b .deeper d a (le-refl d),
+      )))
+      (λ x. x)
+      (less? (parent level d) (suc p))
 
   under-in : (c w : ℕ) → c < n → w < n → Under level c w → w ≤ c + at size c
   under-in c w m l u = shape-descendants s c w m l .0 (ancestor-under level n (shape-steps s) c w l .1 u) .1
