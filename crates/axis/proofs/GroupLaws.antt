@@ -20,19 +20,19 @@ use Rattle.tree.proofs.TreeLaws.{parent-below}
 use Rattle.tree.proofs.SearchLaws.{gather-zero, gather-skip, gather-ext}
 use Rattle.tree.proofs.SoundLaws.{shape-fits}
 use Rattle.tree.proofs.AxisLaws.{false-of}
-use Rattle.span.specs.Want.{fits}
-use Rattle.span.specs.Range.{rowsIn, PastTree}
-use Rattle.span.specs.OneRole.{anyOn, oneRole, RoleIn, Wrote}
-use Rattle.span.proofs.WroteLaws.{wrote-as, wrote-none, wrote-length, wrote-part}
-use Rattle.span.proofs.ScanLaws.{rows-join, rows-same, part-length}
-use Rattle.span.proofs.RangeLaws.{contexts-rise, any-miss}
-use Rattle.span.proofs.SideLaws.{nests}
+use Rattle.scan.specs.Want.{fits}
+use Rattle.scan.specs.Range.{rowsIn, PastTree}
+use Rattle.scan.specs.OneRole.{anyOn, oneRole, RoleIn, Wrote}
+use Rattle.scan.proofs.WroteLaws.{wrote-as, wrote-none, wrote-length, wrote-part}
+use Rattle.scan.proofs.ScanLaws.{rows-join, rows-same, part-length}
+use Rattle.scan.proofs.RangeLaws.{contexts-rise, any-miss}
+use Rattle.scan.proofs.SideLaws.{nests}
 use Rattle.axis.specs.Later.{LaterEnd}
 use Rattle.marks.proofs.MarkLaws.{any-append}
 use Rattle.marks.proofs.ChildWalkLaws.{in-parent, child-within}
 use Rattle.marks.proofs.SiblingLaws.{later-on}
 use Rattle.marks.proofs.LaterLaws.{later-parent}
-use Rattle.span.specs.declared.want.Want.{Want}
+use Rattle.scan.specs.declared.want.Want.{Want}
 
 -- ── how far contexts reach ──
 module _ {size level : List ℕ} {n : ℕ} (s : Shape size level n) {c e : ℕ} (here : c < n)

@@ -17,20 +17,20 @@ use Rattle.tree.proofs.TreeLaws.{parent-below}
 use Rattle.tree.proofs.SearchLaws.{gather-zero, gather-skip}
 use Rattle.tree.proofs.SoundLaws.{shape-fits, both-of}
 use Rattle.tree.proofs.AxisLaws.{false-of}
-use Rattle.span.specs.Want.{fits}
-use Rattle.span.specs.Range.{rowsIn, Appended}
-use Rattle.span.specs.OneRole.{anyOn, oneRole, RoleIn, Parents, Wrote}
-use Rattle.span.proofs.WroteLaws.{wrote-as}
-use Rattle.span.proofs.AppendedLaws.{appended-front}
-use Rattle.span.proofs.ScanLaws.{rows-join, rows-same}
-use Rattle.span.proofs.RangeLaws.{contexts-rise, any-hit, any-miss, cover-start, cover-done}
+use Rattle.scan.specs.Want.{fits}
+use Rattle.scan.specs.Range.{rowsIn, Appended}
+use Rattle.scan.specs.OneRole.{anyOn, oneRole, RoleIn, Parents, Wrote}
+use Rattle.scan.proofs.WroteLaws.{wrote-as}
+use Rattle.scan.proofs.AppendedLaws.{appended-front}
+use Rattle.scan.proofs.ScanLaws.{rows-join, rows-same}
+use Rattle.scan.proofs.RangeLaws.{contexts-rise, any-hit, any-miss, cover-start, cover-done}
 use Rattle.marks.specs.Mark.{childIn}
 use Rattle.direct.specs.Children.{childThat, ChildrenIn}
 use Rattle.axis.specs.Later.{OneParent}
 use Rattle.marks.proofs.ChildWalkLaws.{ChildIn, child-in}
 use Rattle.marks.proofs.SiblingLaws.{later-on, on-later}
 use Rattle.marks.proofs.LaterLaws.{no-later, later-parent, later-row, later-from, later-first, later-same}
-use Rattle.span.specs.declared.want.Want.{Want}
+use Rattle.scan.specs.declared.want.Want.{Want}
 
 module _ {size level kind name up : List ℕ} {n : ℕ} {want : Want} {cs out : List ℕ}
     (pre : RoleIn 10 size level kind name n cs want out) (parents : Parents level n up) (one : OneParent up cs) where

@@ -5,10 +5,10 @@ use mathlib.Core.List.{List}
 use Prim.Native.Nat.{ℕ}
 use lib.Dec.{eqb}
 use Rattle.tree.specs.Axis.{axisOk}
-use Rattle.span.specs.OneRole.{oneRole, RoleIn, Wrote, Parents, Roots}
-use Rattle.span.specs.Want.{fits}
+use Rattle.scan.specs.OneRole.{oneRole, RoleIn, Wrote, Parents, Roots}
+use Rattle.scan.specs.Want.{fits}
 use Rattle.marks.specs.RowSet.{Blank}
-use Rattle.span.specs.declared.want.Want.{Want}
+use Rattle.scan.specs.declared.want.Want.{Want}
 
 -- the axes whose rows come out as ranges
 unfoldable pub rangedAxis : ℕ → Bool

@@ -4,15 +4,15 @@
 // the contexts of other groups reach goes through the set of `one_role`.
 use super::role::one_role;
 use direct::children::append_children;
-use span::ranges::past_tree;
-use span::want::Want;
+use scan::want::Want;
+use span::past_tree;
 ghost use mathlib.Core.Path.{_≡_};
 ghost use mathlib.Core.Bool.{true};
 ghost use Prim.Native.Nat.{_<_, _≤_};
 ghost use lib.ListN.{length};
 ghost use Rattle.tree.specs.Rules.{Shape};
-ghost use Rattle.span.specs.Want.{fits};
-ghost use Rattle.span.specs.OneRole.{oneRole, Contexts, RoleIn, Parents, Wrote};
+ghost use Rattle.scan.specs.Want.{fits};
+ghost use Rattle.scan.specs.OneRole.{oneRole, Contexts, RoleIn, Parents, Wrote};
 ghost use Rattle.marks.specs.RowSet.{Blank};
 ghost use Rattle.axis.specs.Later.{OneParent, LaterEnd};
 ghost use Rattle.axis.specs.Role.{RoleDone};

@@ -2,17 +2,16 @@
 ghost use mathlib.Core.Path.{_≡_};
 ghost use mathlib.Core.Bool.{true};
 ghost use Rattle.tree.specs.Rules.{Shape};
-ghost use Rattle.span.specs.OneRole.{oneRole, RoleIn, Wrote, Parents, Roots};
-ghost use Rattle.span.specs.Want.{fits};
+ghost use Rattle.scan.specs.OneRole.{oneRole, RoleIn, Wrote, Parents, Roots};
+ghost use Rattle.scan.specs.Want.{fits};
 ghost use Rattle.marks.specs.RowSet.{Marks, Marked};
 ghost use Rattle.marks.specs.Mark.{Zeros};
 ghost use Rattle.axis.specs.Role.{rangedAxis, aboveAxis, markedAxis, climbsAxis, sideAxis, UpFor};
 ghost use Rattle.axis.specs.Role.{RoleAsk, RoleDone};
-use direct::above;
 use marks::mark;
 use marks::row_set;
-use span::ranges;
-use span::want::Want;
+use scan::want::Want;
+use ways::above;
 
 // Whether the rows of the axis come out as ranges.
 fn is_ranged(axis: usize) -> bool
@@ -47,11 +46,11 @@ fn ranged(
         (now (out .entry)) r (now (out .exit)) ⌝ }
 {
     match axis {
-        1 => ranges::own_rows(size, level, kind, name, count, rows, want, out),
-        3 => ranges::rows_below(size, level, kind, name, count, rows, 1, want, out),
-        4 => ranges::rows_below(size, level, kind, name, count, rows, 0, want, out),
-        8 => ranges::rows_after(size, level, kind, name, count, up, rows, want, out),
-        _ => ranges::rows_before(size, level, kind, name, count, up, rows, want, out),
+        1 => span::own_rows(size, level, kind, name, count, rows, want, out),
+        3 => span::rows_below(size, level, kind, name, count, rows, 1, want, out),
+        4 => span::rows_below(size, level, kind, name, count, rows, 0, want, out),
+        8 => span::rows_after(size, level, kind, name, count, up, rows, want, out),
+        _ => span::rows_before(size, level, kind, name, count, up, rows, want, out),
     }
 }
 

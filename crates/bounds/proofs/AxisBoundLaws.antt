@@ -20,7 +20,7 @@ use Rattle.tree.specs.Rules.{Shape}
 use Rattle.tree.proofs.TreeLaws.{less?, parent-below}
 use Rattle.tree.proofs.SoundLaws.{either, shape-descendants}
 use Rattle.tree.proofs.LevelLaws.{ancestors-count}
-use Rattle.span.specs.OneRole.{Parents}
+use Rattle.scan.specs.OneRole.{Parents}
 use Rattle.bounds.specs.Bounds.{sumOf, onCount, spanOf, linkSpan, parentSpan, FewRows}
 use Rattle.marks.proofs.ChildWalkLaws.{child-within}
 use Rattle.marks.proofs.SiblingLaws.{later-on, earlier-on}

@@ -20,8 +20,8 @@ use Rattle.tree.specs.Step.{stepList}
 use Rattle.tree.proofs.SearchLaws.{least-le, least-below, least-passes}
 use Rattle.tree.proofs.TreeLaws.{less?}
 use Rattle.tree.proofs.SoundLaws.{both, sound-shape}
-use Rattle.span.specs.OneRole.{anyOn, oneRole}
-use Rattle.lines.specs.Runs.{pairsFrom, runRows, RunEnd}
+use Rattle.scan.specs.OneRole.{anyOn, oneRole}
+use Rattle.runs.specs.Runs.{pairsFrom, runRows, RunEnd}
 use Rattle.lines.specs.StepReady.{StepReady}
 use Rattle.bounds.specs.Bounds.{sumOf, onCount, FewRows}
 use Rattle.lines.proofs.RunLaws.{roleRows}

@@ -11,9 +11,9 @@ use Rattle.tree.specs.Tree.{parent}
 use Rattle.tree.specs.Rules.{Shape}
 use Rattle.tree.proofs.TreeLaws.{parent-below}
 use Rattle.tree.proofs.SoundLaws.{shape-fits}
-use Rattle.span.specs.OneRole.{Parents}
+use Rattle.scan.specs.OneRole.{Parents}
 use Rattle.bounds.specs.Bounds.{sumOf, spanOf, linkSpan, parentSpan, FewRows}
-use Rattle.direct.proofs.ClimbLaws.{parent-low}
+use Rattle.ways.proofs.ClimbLaws.{parent-low}
 use Rattle.bounds.proofs.SumLaws.{sum-less, sum-same}
 
 -- ── the row that a link names ──

@@ -15,14 +15,14 @@ use Rattle.tree.specs.Search.{only}
 use Rattle.tree.specs.Tree.{parent}
 use Rattle.tree.proofs.TreeLaws.{less?}
 use Rattle.tree.proofs.SearchLaws.{only-none, only-one}
-use Rattle.span.specs.Want.{fits}
-use Rattle.span.specs.Range.{rowsIn, Appended}
-use Rattle.span.proofs.AppendedLaws.{appended-as, appended-none, appended-more, appended-length, appended-then}
-use Rattle.span.proofs.ScanLaws.{rows-cut, rows-skip, rows-one}
-use Rattle.span.proofs.SideLaws.{nests}
+use Rattle.scan.specs.Want.{fits}
+use Rattle.scan.specs.Range.{rowsIn, Appended}
+use Rattle.scan.proofs.AppendedLaws.{appended-as, appended-none, appended-more, appended-length, appended-then}
+use Rattle.scan.proofs.ScanLaws.{rows-cut, rows-skip, rows-one}
+use Rattle.scan.proofs.SideLaws.{nests}
 use Rattle.direct.specs.Children.{childThat, ChildOrEnd, ChildrenIn}
 use Rattle.marks.proofs.ChildWalkLaws.{row-in-use, child-next, child-none}
-use Rattle.span.specs.declared.want.Want.{Want}
+use Rattle.scan.specs.declared.want.Want.{Want}
 
 -- ── children that pass ──
 module _ (test : ℕ → Bool) (level : List ℕ) (p w : ℕ) where

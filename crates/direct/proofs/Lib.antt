@@ -1,8 +1,2 @@
-pub mod ClimbLaws
-pub mod AncestorLaws
-pub mod PathLaws
-pub mod LoneLaws
-pub mod ReverseLaws
-pub mod AboveLaws
 pub mod ChildRowLaws
 pub mod RisingLaws

@@ -19,18 +19,18 @@ use Rattle.tree.specs.Axis.{onAxis}
 use Rattle.tree.specs.Rules.{Shape}
 use Rattle.tree.proofs.TreeLaws.{less?, parent-below}
 use Rattle.tree.proofs.AxisLaws.{same-test, false-of}
-use Rattle.span.specs.Want.{fits}
-use Rattle.span.specs.OneRole.{anyOn, oneRole, RoleIn, Parents, Wrote}
-use Rattle.span.specs.Range.{rowsIn, Appended}
-use Rattle.span.proofs.AppendedLaws.{appended-as, appended-none}
-use Rattle.span.proofs.ScanLaws.{rows-cut, rows-skip, rows-same}
-use Rattle.span.proofs.RangeLaws.{contexts-rise, any-hit, any-miss, Covered, cover-start, cover-done}
-use Rattle.span.proofs.RangeLaws.{part-room, cover-part}
+use Rattle.scan.specs.Want.{fits}
+use Rattle.scan.specs.OneRole.{anyOn, oneRole, RoleIn, Parents, Wrote}
+use Rattle.scan.specs.Range.{rowsIn, Appended}
+use Rattle.scan.proofs.AppendedLaws.{appended-as, appended-none}
+use Rattle.scan.proofs.ScanLaws.{rows-cut, rows-skip, rows-same}
+use Rattle.scan.proofs.RangeLaws.{contexts-rise, any-hit, any-miss, Covered, cover-start, cover-done}
+use Rattle.scan.proofs.RangeLaws.{part-room, cover-part}
 use Rattle.marks.proofs.ChildWalkLaws.{in-parent, child-within, child-first}
 use Rattle.marks.proofs.SiblingLaws.{earlier-on, on-earlier}
 use Rattle.direct.specs.Children.{childThat, ChildrenIn}
 use Rattle.direct.specs.Earlier.{earlierFrom, EarlierIn, ParentsRise}
-use Rattle.span.specs.declared.want.Want.{Want}
+use Rattle.scan.specs.declared.want.Want.{Want}
 
 -- a row between a row and its parent has no parent before that one
 inner-parent : {size level : List ℕ} {n : ℕ} → Shape size level n → (c p d : ℕ) → c < n → parent level c ≡ suc p

@@ -9,9 +9,9 @@ use lib.ListN.{length}
 use Rattle.tree.specs.Table.{at}
 use Rattle.tree.specs.Tree.{parent}
 use Rattle.tree.specs.Rules.{Shape}
-use Rattle.span.specs.Want.{fits}
-use Rattle.span.specs.Range.{rowsIn}
-use Rattle.span.specs.declared.want.Want.{Want}
+use Rattle.scan.specs.Want.{fits}
+use Rattle.scan.specs.Range.{rowsIn}
+use Rattle.scan.specs.declared.want.Want.{Want}
 
 -- row w is a child of p and passes
 unfoldable pub childThat : (ℕ → Bool) → List ℕ → ℕ → ℕ → Bool

@@ -9,10 +9,10 @@ use Rattle.tree.specs.Table.{at}
 use Rattle.tree.specs.Tree.{parent}
 use Rattle.tree.specs.Axis.{onAxis}
 use Rattle.tree.specs.Rules.{Shape}
-use Rattle.span.specs.Want.{fits}
-use Rattle.span.specs.Range.{rowsIn}
-use Rattle.span.specs.OneRole.{Parents}
-use Rattle.span.specs.declared.want.Want.{Want}
+use Rattle.scan.specs.Want.{fits}
+use Rattle.scan.specs.Range.{rowsIn}
+use Rattle.scan.specs.OneRole.{Parents}
+use Rattle.scan.specs.declared.want.Want.{Want}
 
 -- the earlier siblings of c from row v on that pass, ascending
 unfoldable pub earlierFrom : List ℕ → ℕ → ℕ → (ℕ → Bool) → List ℕ

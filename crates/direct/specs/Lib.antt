@@ -1,4 +1,2 @@
-pub mod Path
-pub mod Above
 pub mod Children
 pub mod Earlier

@@ -1,10 +1,10 @@
 // The children of a row, from one of them on and before another, written as they are met: a walk by hops over subtrees.
 ghost use Prim.Native.Nat.{_<_, _≤_};
-ghost use Rattle.span.specs.Want.{fits};
-ghost use Rattle.span.specs.Range.{rowsIn, Appended};
+ghost use Rattle.scan.specs.Want.{fits};
+ghost use Rattle.scan.specs.Range.{rowsIn, Appended};
 ghost use Rattle.direct.specs.Children.{childThat, ChildOrEnd, ChildrenIn};
-use span::want::Want;
-use span::want::fits_row;
+use scan::want::Want;
+use scan::want::fits_row;
 
 // Where a walk from child to child is: the next row, and how many rows are written.
 struct Stand {

@@ -2,14 +2,14 @@
 // after what is written, since it is the siblings before it that are not before the context ahead of it. They are
 // written as they are met, without a set.
 use super::children::append_children;
-use span::want::Want;
+use scan::want::Want;
 use tree::logic::greater;
 ghost use mathlib.Core.Path.{_≡_};
 ghost use mathlib.Core.Bool.{true, false};
 ghost use Prim.Native.Nat.{_≤_};
-ghost use Rattle.span.specs.Want.{fits};
-ghost use Rattle.span.specs.Range.{Appended};
-ghost use Rattle.span.specs.OneRole.{oneRole, Contexts, RoleIn, Parents, Wrote};
+ghost use Rattle.scan.specs.Want.{fits};
+ghost use Rattle.scan.specs.Range.{Appended};
+ghost use Rattle.scan.specs.OneRole.{oneRole, Contexts, RoleIn, Parents, Wrote};
 ghost use Rattle.direct.specs.Earlier.{earlierFrom, EarlierIn, ParentsRise};
 
 // Whether earlier siblings are asked for, and no context has a parent before that of the context ahead of it. No parent

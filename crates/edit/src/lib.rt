@@ -6,8 +6,8 @@ ghost use Rattle.tree.specs.Outcome.{insertOutcome, deleteOutcome, renameOutcom
 ghost use Rattle.edit_at.specs.EditLeaves.{EditLeaves};
 ghost use Rattle.edit.specs.SearchRefusal.{refusalOf};
 use edit_at::deletion;
-use edit_at::insertion;
 use edit_at::renaming;
+use insert_at::insert_at;
 use tree::Edited;
 use tree::Found;
 
@@ -48,7 +48,7 @@ pub fn insert(
     let Found::At(row) = found else {
         return refused(found);
     };
-    insertion::insert_at(
+    insert_at(
         key,
         size,
         level,

@@ -1,4 +1,3 @@
 pub mod OutcomeLaws
 pub mod DeleteLaws
-pub mod InsertLaws
 pub mod EditLeavesLaws

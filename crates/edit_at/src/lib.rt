@@ -1,6 +1,5 @@
-// Insertion, deletion and rename at a known row of a sound table: document 01, "Finding and editing by key". A refusal
-// leaves all columns as they were.
+// Deletion and rename at a known row of a sound table: document 01, "Finding and editing by key". A refusal leaves all
+// columns as they were.
 
 pub mod renaming; // renaming.rt: a rename at a row
 pub mod deletion; // deletion.rt: a deletion at a row
-pub mod insertion; // insertion.rt: an insertion at a row

@@ -19,8 +19,8 @@ use Rattle.tree.proofs.TreeLaws.{less?}
 use Rattle.tree.proofs.SoundLaws.{shape-descendants, shape-fits}
 use Rattle.tree.proofs.AxisLaws.{ancestor-is}
 use Rattle.kept.specs.KeptOf.{keptOf, KeptIn}
-use Rattle.span.proofs.RangeLaws.{contexts-rise}
-use Rattle.span.proofs.SideLaws.{nests}
+use Rattle.scan.proofs.RangeLaws.{contexts-rise}
+use Rattle.scan.proofs.SideLaws.{nests}
 use Rattle.kept.proofs.KeptOfLaws.{keptRow, keptBelow, kept-rows, row-none, row-dropped, row-kept}
 use Rattle.kept.proofs.KeptOfLaws.{below-skip, below-next, below-none}
 

@@ -17,7 +17,7 @@ use Rattle.tree.specs.Kept.{drops}
 use Rattle.tree.proofs.TreeLaws.{less?}
 use Rattle.tree.proofs.SoundLaws.{shape-descendants}
 use Rattle.kept.specs.KeptOf.{keptOf, KeptIn}
-use Rattle.span.proofs.RangeLaws.{contexts-rise}
+use Rattle.scan.proofs.RangeLaws.{contexts-rise}
 use Rattle.kept.proofs.KeptOfLaws.{keptRow, keptBelow, kept-rows, row-none, row-dropped, row-kept}
 use Rattle.kept.proofs.KeptOfLaws.{below-skip, below-next, below-none, kept-none}
 use Rattle.kept.proofs.KeptOuterLaws.{ancestor-not-before, ancestor-not-past}

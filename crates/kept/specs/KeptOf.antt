@@ -6,7 +6,7 @@ use lib.ListN.{length}
 use Rattle.tree.specs.Pairs.{mostPairs, withRole}
 use Rattle.tree.specs.Kept.{keptCount}
 use Rattle.tree.specs.Rules.{Shape}
-use Rattle.span.specs.OneRole.{Contexts}
+use Rattle.scan.specs.OneRole.{Contexts}
 
 -- how many distinct pairs of one role with these rows remain on an axis when redundant ones are dropped
 unfoldable pub keptOf : ℕ → List ℕ → List ℕ → ℕ

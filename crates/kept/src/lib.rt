@@ -4,7 +4,7 @@ ghost use mathlib.Core.Bool.{cond, true};
 ghost use Prim.Native.Nat.{_<_};
 ghost use lib.Dec.{leb};
 ghost use lib.ListN.{length};
-ghost use Rattle.span.specs.OneRole.{Roots};
+ghost use Rattle.scan.specs.OneRole.{Roots};
 ghost use Rattle.axis.specs.Role.{sideAxis};
 ghost use Rattle.kept.specs.KeptOf.{keptOf, KeptIn};
 use tree::logic::greater;

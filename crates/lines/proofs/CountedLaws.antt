@@ -21,13 +21,13 @@ use Rattle.tree.specs.declared.Checked.the-variants.{Passed}
 use Rattle.tree.proofs.SearchLaws.{gather-zero, gather-length}
 use Rattle.tree.proofs.SoundLaws.{sound-shape, next-passed, given-passed}
 use Rattle.tree.proofs.RoleLaws.{pair-passes}
-use Rattle.span.specs.Want.{wantOf}
-use Rattle.span.specs.OneRole.{oneRole}
+use Rattle.scan.specs.Want.{wantOf}
+use Rattle.scan.specs.OneRole.{oneRole}
 use Rattle.marks.specs.RowSet.{Blank}
 use Rattle.axis.specs.Role.{RoleAsk, RoleDone}
-use Rattle.lines.specs.Runs.{pairsFrom, runRows, RunEnd}
+use Rattle.runs.specs.Runs.{pairsFrom, runRows, RunEnd}
 use Rattle.lines.specs.StepReady.{StepReady}
-use Rattle.span.proofs.WroteLaws.{wrote-length}
+use Rattle.scan.proofs.WroteLaws.{wrote-length}
 use Rattle.lines.proofs.RunLaws.{roleRows, step-run, run-contexts}
 
 -- a search gathers no more than it looks at

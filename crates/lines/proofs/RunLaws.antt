@@ -25,10 +25,10 @@ use Rattle.tree.proofs.SoundLaws.{both-of, either-right}
 use Rattle.tree.proofs.StepLaws.{In, Ordered}
 use Rattle.tree.proofs.SplitLaws.{RolesBelow, step-split}
 use Rattle.tree.proofs.RoleLaws.{Level, all-above, level-ordered, in-order}
-use Rattle.span.specs.Want.{wantOf, fits}
-use Rattle.span.specs.OneRole.{anyOn, oneRole, Contexts}
-use Rattle.lines.specs.Runs.{pairsFrom, runRows, RunEnd}
-use Rattle.span.proofs.WantLaws.{fits-passes}
+use Rattle.scan.specs.Want.{wantOf, fits}
+use Rattle.scan.specs.OneRole.{anyOn, oneRole, Contexts}
+use Rattle.runs.specs.Runs.{pairsFrom, runRows, RunEnd}
+use Rattle.scan.proofs.WantLaws.{fits-passes}
 
 -- ── one role's lines ──
 some-role : (f : ℕ → Bool) (r : ℕ) (cs : List ℕ) → some f r (withRole r cs) ≡ some f 0 (withRole 0 cs)

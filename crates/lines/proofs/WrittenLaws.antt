@@ -11,13 +11,13 @@ use Rattle.tree.specs.Pairs.{Pair, pairsOf, withRole, rolesOf, rowsOf}
 use Rattle.tree.specs.declared.Ask.{Ask}
 use Rattle.tree.specs.Step.{stepList}
 use Rattle.tree.proofs.PairColumns.{length-roles, length-rows, roles-append, rows-append}
-use Rattle.span.specs.Want.{wantOf}
-use Rattle.span.specs.OneRole.{Wrote}
+use Rattle.scan.specs.Want.{wantOf}
+use Rattle.scan.specs.OneRole.{Wrote}
 use Rattle.marks.specs.RowSet.{Blank}
 use Rattle.axis.specs.Role.{RoleAsk, RoleDone}
-use Rattle.lines.specs.Runs.{pairsFrom, runRows, RunEnd}
+use Rattle.runs.specs.Runs.{pairsFrom, runRows, RunEnd}
 use Rattle.lines.specs.StepReady.{StepReady, HasRoom, Lists}
-use Rattle.span.proofs.WroteLaws.{wrote-as, wrote-none, wrote-length, wrote-part}
+use Rattle.scan.proofs.WroteLaws.{wrote-as, wrote-none, wrote-length, wrote-part}
 use Rattle.lines.proofs.RunLaws.{roleRows}
 use Rattle.lines.proofs.CountedLaws.{length-role, step-at, step-end, row-most, run-asks}
 

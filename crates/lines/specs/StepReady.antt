@@ -10,7 +10,7 @@ use Rattle.tree.specs.declared.Ask.{Ask}
 use Rattle.tree.specs.Step.{stepList}
 use Rattle.tree.specs.Refusal.{pairCheck, askCheck}
 use Rattle.tree.specs.declared.Checked.the-variants.{Passed}
-use Rattle.span.specs.OneRole.{Wrote}
+use Rattle.scan.specs.OneRole.{Wrote}
 use Rattle.axis.specs.Role.{UpFor}
 
 -- refusals 1 to 7 do not apply

@@ -17,7 +17,7 @@ use Rattle.tree.specs.Tree.{parent}
 use Rattle.tree.specs.Axis.{onAxis}
 use Rattle.tree.proofs.TreeLaws.{parent-below}
 use Rattle.tree.proofs.SoundLaws.{shape-fits, both, both-of}
-use Rattle.span.specs.OneRole.{anyOn, Parents}
+use Rattle.scan.specs.OneRole.{anyOn, Parents}
 use Rattle.marks.specs.RowSet.{has, Marked, Marks}
 use Rattle.marks.specs.Mark.{Joined, Turn}
 use Rattle.marks.proofs.MarkLaws.{any-take-more, any-also, joined-none, marked-none, marked-as, marked-more}

@@ -17,12 +17,12 @@ use lib.Count.{trailingZeros}
 use Rattle.tree.specs.Table.{at}
 use Rattle.tree.specs.Search.{gather, only}
 use Rattle.tree.proofs.SearchLaws.{gather-zero, gather-suc, gather-skip, gather-grows, gather-ext}
-use Rattle.span.specs.OneRole.{Wrote}
-use Rattle.span.specs.declared.want.Want.{Want}
-use Rattle.span.specs.Want.{fits}
+use Rattle.scan.specs.OneRole.{Wrote}
+use Rattle.scan.specs.declared.want.Want.{Want}
+use Rattle.scan.specs.Want.{fits}
 use Rattle.marks.specs.RowSet.{bit, has, inWord, WordDrains, Drains, Drained}
 use Rattle.marks.proofs.BitsLeftLaws.{Left, left-start, left-none, left-high, left-low, left-skip, left-next}
-use Rattle.span.proofs.WroteLaws.{wrote-none, wrote-length, wrote-part}
+use Rattle.scan.proofs.WroteLaws.{wrote-none, wrote-length, wrote-part}
 use Rattle.marks.proofs.RowSetLaws.{has-word, has-zero, unmarked-zero}
 use Rattle.marks.proofs.WordLaws.{wordRows}
 

@@ -17,7 +17,7 @@ use Rattle.tree.specs.Rules.{Shape}
 use Rattle.tree.proofs.TreeLaws.{less?, parent-below}
 use Rattle.tree.proofs.SoundLaws.{shape-fits, both, both-of}
 use Rattle.tree.proofs.AxisLaws.{same-test, false-of}
-use Rattle.span.proofs.SideLaws.{nests}
+use Rattle.scan.proofs.SideLaws.{nests}
 use Rattle.marks.specs.RowSet.{Marked}
 use Rattle.marks.specs.Mark.{childIn, Joined, AddsChildren, Turn}
 use Rattle.marks.proofs.ChildWalkLaws.{child-within, child-next, child-none, ChildIn, child-in, in-child}

@@ -17,7 +17,7 @@ use Rattle.tree.specs.Table.{at}
 use Rattle.tree.specs.Axis.{onAxis}
 use Rattle.tree.proofs.SoundLaws.{either, either-left, either-right}
 use Rattle.tree.proofs.AxisLaws.{same-test}
-use Rattle.span.specs.OneRole.{anyOn}
+use Rattle.scan.specs.OneRole.{anyOn}
 use Rattle.marks.specs.RowSet.{has, RowSet, Blank, Added, Marked}
 use Rattle.marks.specs.Mark.{Joined}
 use Rattle.marks.proofs.RowSetLaws.{has-blank, blank-set}

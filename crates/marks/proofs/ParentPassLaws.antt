@@ -19,7 +19,7 @@ use Rattle.tree.specs.Tree.{parent}
 use Rattle.tree.specs.Rules.{Shape}
 use Rattle.tree.proofs.SearchLaws.{nearest-le}
 use Rattle.tree.proofs.RootLaws.{nearest-past}
-use Rattle.span.specs.OneRole.{Parents}
+use Rattle.scan.specs.OneRole.{Parents}
 use Rattle.marks.specs.Mark.{aboveOf}
 
 -- one more than the last row before i whose level is one less than d, or 0

@@ -17,7 +17,7 @@ use Rattle.tree.specs.Table.{at}
 use Rattle.tree.specs.Tree.{root}
 use Rattle.tree.specs.Rules.{Shape}
 use Rattle.tree.proofs.RootLaws.{own-root, tree-range}
-use Rattle.span.specs.OneRole.{Roots}
+use Rattle.scan.specs.OneRole.{Roots}
 use Rattle.marks.specs.Mark.{Zeros}
 
 -- the column as it is made

@@ -14,11 +14,11 @@ use lib.Bits.{bitAnd}
 use lib.Count.{trailingZeros}
 use Rattle.tree.specs.Search.{gather}
 use Rattle.tree.proofs.SearchLaws.{gather-zero, gather-skip, gather-yes, gather-no, gather-grows}
-use Rattle.span.specs.OneRole.{Wrote}
+use Rattle.scan.specs.OneRole.{Wrote}
 use Rattle.marks.specs.RowSet.{bit, inWord}
 use Rattle.marks.proofs.BitsLeftLaws.{Left, left-start, left-none, left-next}
 use Rattle.marks.proofs.BitsLeftLaws.{left-high, left-low, left-set, left-skip}
-use Rattle.span.proofs.WroteLaws.{wrote-none, wrote-length, wrote-more}
+use Rattle.scan.proofs.WroteLaws.{wrote-none, wrote-length, wrote-more}
 
 -- a row before the word is not in it
 word-before : (base word w : ℕ) → w < base → inWord base word w ≡ false

@@ -9,7 +9,7 @@ use lib.ListN.{length}
 use Rattle.tree.specs.Table.{at}
 use Rattle.tree.specs.Tree.{parent}
 use Rattle.tree.specs.Rules.{Shape}
-use Rattle.span.specs.OneRole.{Contexts}
+use Rattle.scan.specs.OneRole.{Contexts}
 use Rattle.marks.specs.RowSet.{has, inWord, RowSet, Marked}
 
 -- a column of 4,096 zeros

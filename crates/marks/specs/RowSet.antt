@@ -9,9 +9,9 @@ use lib.ListN.{length}
 use Rattle.tree.specs.Table.{at}
 use Rattle.tree.specs.Search.{gather}
 use Rattle.tree.specs.Rules.{Shape}
-use Rattle.span.specs.OneRole.{anyOn, Contexts, Wrote}
-use Rattle.span.specs.declared.want.Want.{Want}
-use Rattle.span.specs.Want.{fits}
+use Rattle.scan.specs.OneRole.{anyOn, Contexts, Wrote}
+use Rattle.scan.specs.declared.want.Want.{Want}
+use Rattle.scan.specs.Want.{fits}
 
 -- bit b of a word is set
 unfoldable pub bit : ℕ → ℕ → Bool

@@ -10,7 +10,7 @@ ghost use lib.Dec.{eqb};
 ghost use lib.ListN.{length, take, drop};
 ghost use Rattle.tree.specs.Table.{at};
 ghost use Rattle.tree.specs.Rules.{Shape};
-ghost use Rattle.span.specs.OneRole.{Parents, Roots};
+ghost use Rattle.scan.specs.OneRole.{Parents, Roots};
 ghost use Rattle.marks.specs.RowSet.{Marks, Marked};
 ghost use Rattle.marks.specs.Mark.{Turn, Zeros, aboveOf};
 

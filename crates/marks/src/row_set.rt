@@ -1,11 +1,11 @@
 // A set of rows: 64 words of 64 bits, and a word `used` that says which of them hold a row.
-use span::want::Want;
-use span::want::fits_row;
+use scan::want::Want;
+use scan::want::fits_row;
 ghost use mathlib.Core.Path.{_≡_};
 ghost use Prim.Native.Nat.{_+_, _*_, _<_};
 ghost use lib.ListN.{length};
 ghost use Rattle.tree.specs.Search.{gather};
-ghost use Rattle.span.specs.OneRole.{Wrote};
+ghost use Rattle.scan.specs.OneRole.{Wrote};
 ghost use Rattle.marks.specs.RowSet.{has, RowSet, Added, inWord, wordFits, WordDrains, Drains, Drained};
 ghost use Rattle.marks.specs.Mark.{Joined};
 

@@ -16,14 +16,15 @@ use Rattle.tree.specs.Axis.{onAxis}
 use Rattle.tree.proofs.TreeLaws.{less?}
 use Rattle.tree.proofs.SoundLaws.{both-of}
 use Rattle.tree.proofs.RootLaws.{following-range}
-use Rattle.span.specs.Want.{Want, fits}
-use Rattle.span.specs.OneRole.{anyOn, oneRole, RoleIn, Roots, Wrote}
-use Rattle.span.specs.Range.{rowsIn, Appended, RangeIn, EndsIn, firstAfter, PastTree}
-use Rattle.span.proofs.RangeLaws.{contexts-rise, any-hit, any-miss, Covered, cover-start, cover-skip}
-use Rattle.span.proofs.RangeLaws.{cover-range, cover-asks, cover-done}
+use Rattle.scan.specs.declared.want.Want.{Want}
+use Rattle.scan.specs.Want.{fits}
+use Rattle.scan.specs.OneRole.{anyOn, oneRole, RoleIn, Roots, Wrote}
+use Rattle.scan.specs.Range.{rowsIn, Appended, RangeIn, EndsIn, firstAfter, PastTree}
+use Rattle.scan.proofs.RangeLaws.{contexts-rise, any-hit, any-miss, Covered, cover-start, cover-skip}
+use Rattle.scan.proofs.RangeLaws.{cover-range, cover-asks, cover-done}
 use Rattle.span.proofs.TreeContextLaws.{root-of, low as tree-low, end-in as tree-in, same-root as tree-same}
 use Rattle.span.proofs.TreeContextLaws.{end-le, later-root}
-use Rattle.span.proofs.SideLaws.{after-least, after-met, after-le, nests}
+use Rattle.scan.proofs.SideLaws.{after-least, after-met, after-le, nests}
 
 -- the contexts of places i to j
 abbrev pub some-of : ℕ → ℕ → List ℕ → List ℕ

@@ -17,11 +17,12 @@ use Rattle.tree.specs.Rules.{Shape}
 use Rattle.tree.proofs.TreeLaws.{less?}
 use Rattle.tree.proofs.SoundLaws.{both-of}
 use Rattle.tree.proofs.RootLaws.{preceding-range}
-use Rattle.span.specs.Want.{Want, fits}
-use Rattle.span.specs.OneRole.{anyOn, oneRole, Contexts, RoleIn, Roots, Wrote}
-use Rattle.span.specs.Range.{rowsIn, Appended, RangeIn, PastTree, Ended}
-use Rattle.span.proofs.RangeLaws.{contexts-rise, any-hit, any-miss, Covered, cover-start, cover-skip}
-use Rattle.span.proofs.RangeLaws.{cover-range, cover-asks, cover-done}
+use Rattle.scan.specs.declared.want.Want.{Want}
+use Rattle.scan.specs.Want.{fits}
+use Rattle.scan.specs.OneRole.{anyOn, oneRole, Contexts, RoleIn, Roots, Wrote}
+use Rattle.scan.specs.Range.{rowsIn, Appended, RangeIn, PastTree, Ended}
+use Rattle.scan.proofs.RangeLaws.{contexts-rise, any-hit, any-miss, Covered, cover-start, cover-skip}
+use Rattle.scan.proofs.RangeLaws.{cover-range, cover-asks, cover-done}
 use Rattle.span.proofs.TreeContextLaws.{root-of, same-root, later-root, turn-less}
 
 -- the contexts before place i are not after row pos, and the trees of those from i on lie ahead of it

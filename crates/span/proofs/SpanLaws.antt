@@ -19,11 +19,12 @@ use Rattle.tree.specs.Rules.{Shape}
 use Rattle.tree.proofs.TreeLaws.{less?}
 use Rattle.tree.proofs.SoundLaws.{both, both-of, either, either-left, either-right, shape-fits}
 use Rattle.tree.proofs.AxisLaws.{same-test, ancestor-is}
-use Rattle.span.specs.Want.{Want, fits}
-use Rattle.span.specs.OneRole.{anyOn, oneRole, RoleIn, Wrote}
-use Rattle.span.specs.Range.{rowsIn, Appended, RangeIn}
-use Rattle.span.proofs.RangeLaws.{contexts-rise, any-hit, any-miss, Covered, cover-start, cover-skip}
-use Rattle.span.proofs.RangeLaws.{cover-range, cover-asks, cover-done}
+use Rattle.scan.specs.declared.want.Want.{Want}
+use Rattle.scan.specs.Want.{fits}
+use Rattle.scan.specs.OneRole.{anyOn, oneRole, RoleIn, Wrote}
+use Rattle.scan.specs.Range.{rowsIn, Appended, RangeIn}
+use Rattle.scan.proofs.RangeLaws.{contexts-rise, any-hit, any-miss, Covered, cover-start, cover-skip}
+use Rattle.scan.proofs.RangeLaws.{cover-range, cover-asks, cover-done}
 
 -- the rows on the axis of a context c are those from first c to last c
 pub record Spans (axis : ℕ) (level : List ℕ) (n : ℕ) (first last : ℕ → ℕ) : Type 0 where

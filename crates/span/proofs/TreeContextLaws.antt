@@ -12,9 +12,9 @@ use Rattle.tree.specs.Rules.{Shape}
 use Rattle.tree.proofs.TreeLaws.{less?}
 use Rattle.tree.proofs.SoundLaws.{shape-fits}
 use Rattle.tree.proofs.RootLaws.{Root, is-root, tree-range, tree-stops}
-use Rattle.span.specs.OneRole.{Contexts, Roots}
-use Rattle.span.specs.Range.{PastTree}
-use Rattle.span.proofs.RangeLaws.{contexts-rise}
+use Rattle.scan.specs.OneRole.{Contexts, Roots}
+use Rattle.scan.specs.Range.{PastTree}
+use Rattle.scan.proofs.RangeLaws.{contexts-rise}
 
 module _ {size level : List ℕ} {n : ℕ} {cs top : List ℕ} (s : Shape size level n) (h : Contexts cs n)
     (roots : Roots level n top) where

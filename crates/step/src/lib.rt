@@ -8,7 +8,7 @@ mod checks; // checks.rt: refusals 1 to 7
 mod room; // room.rt: whether the lines fit
 
 use axis::role::up_for;
-use lines::roles::write_all;
+use lines::write_all;
 use tree::Ask;
 use tree::Checked;
 use tree::Stepped;

@@ -8,7 +8,7 @@ ghost use Rattle.tree.specs.Step.{stepList};
 ghost use Rattle.tree.specs.Refusal.{given};
 ghost use Rattle.lines.specs.StepReady.{StepReady};
 use bounds::surely_fits;
-use lines::roles::count_all;
+use lines::count_all;
 use tree::Ask;
 use tree::Checked;
 

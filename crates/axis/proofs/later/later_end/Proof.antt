@@ -8,7 +8,7 @@ use Rattle.tree.specs.Table.{at}
 use Rattle.tree.specs.Tree.{parent}
 use Rattle.tree.specs.Rules.{Shape}
 use Rattle.tree.proofs.SoundLaws.{shape-fits}
-use Rattle.span.specs.OneRole.{Parents}
+use Rattle.scan.specs.OneRole.{Parents}
 use Rattle.marks.proofs.LaterLaws.{later-parent}
 use Rattle.axis.proofs.later.later_end.Statement.{statement}
 use Rattle.axis.proofs.later.later_end.Tie as tie

@@ -2,7 +2,7 @@
 -- the ways up from the contexts. Assumes nothing.
 use mathlib.Core.Path.{sym, _∙_}
 use native.Mathlib.Omega.{arith}
-use Rattle.span.proofs.WroteLaws.{wrote-as}
+use Rattle.scan.proofs.WroteLaws.{wrote-as}
 use Rattle.axis.proofs.RoleAxisLaws.{role-as, wrote-axis, above-own}
 use Rattle.axis.proofs.RoleAxisLaws.{marked-rest, marked-rows, marked-drains}
 use borrow.Author.Needs.{needs}

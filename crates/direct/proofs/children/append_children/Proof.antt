@@ -2,7 +2,7 @@
 -- appended, and w is the next child, or the end. Assumes nothing.
 use Prim.Native.Nat.{_-_}
 use native.Mathlib.Omega.{arith}
-use Rattle.span.specs.Want.{fits}
+use Rattle.scan.specs.Want.{fits}
 use Rattle.direct.proofs.ChildRowLaws.{Walked, walk-start, walk-length, walk-asks, walk-on, walk-done}
 use Rattle.direct.proofs.children.append_children.Statement.{statement}
 use Rattle.direct.proofs.children.append_children.Tie as tie

@@ -7,7 +7,7 @@ use native.Mathlib.Omega.{arith}
 use lib.ListN.{length}
 use Rattle.tree.specs.Table.{at}
 use Rattle.tree.proofs.SoundLaws.{shape-fits}
-use Rattle.span.specs.Want.{fits}
+use Rattle.scan.specs.Want.{fits}
 use Rattle.direct.proofs.ChildRowLaws.{Walked, walk-row, walk-start, walk-length, walk-room, walk-no, walk-yes}
 use Rattle.direct.proofs.children.append_leaves.Statement.{statement}
 use Rattle.direct.proofs.children.append_leaves.Tie as tie

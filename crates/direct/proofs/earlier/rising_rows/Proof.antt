@@ -3,8 +3,8 @@
 use Prim.Native.Nat.{_-_}
 use borrow.Author.Needs.{needs}
 use lib.ListN.{length}
-use Rattle.span.specs.Want.{fits}
-use Rattle.span.proofs.RangeLaws.{cover-length}
+use Rattle.scan.specs.Want.{fits}
+use Rattle.scan.proofs.RangeLaws.{cover-length}
 use Rattle.direct.proofs.RisingLaws.{Risen, rise-start, rise-asks, rise-next, rise-done}
 use Rattle.direct.proofs.earlier.rising_rows.Statement.{statement}
 use Rattle.direct.proofs.earlier.rising_rows.Tie as tie

@@ -8,7 +8,7 @@ use native.Mathlib.Omega.{arith}
 use borrow.Author.Needs.{needs}
 use lib.Count.{trailingZeros}
 use lib.ListN.{length}
-use Rattle.span.specs.Want.{fits}
+use Rattle.scan.specs.Want.{fits}
 use Rattle.marks.proofs.BitLaws.{lowest-less}
 use Rattle.marks.proofs.BitsLeftLaws.{left-high}
 use Rattle.marks.proofs.DrainLaws.{SetWalk, set-start, set-length, set-place, set-done}

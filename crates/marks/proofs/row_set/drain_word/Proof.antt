@@ -7,7 +7,7 @@ use native.Mathlib.Omega.{arith}
 use borrow.Author.Needs.{needs}
 use lib.Count.{trailingZeros}
 use lib.ListN.{length}
-use Rattle.span.specs.Want.{fits}
+use Rattle.scan.specs.Want.{fits}
 use Rattle.marks.proofs.BitLaws.{lowest-less}
 use Rattle.marks.proofs.BitsLeftLaws.{left-high, left-set}
 use Rattle.marks.proofs.WordLaws.{WordWalk, word-start, word-done, word-length, word-place, word-no, word-yes}

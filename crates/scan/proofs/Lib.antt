@@ -1,0 +1,6 @@
+pub mod WantLaws
+pub mod WroteLaws
+pub mod AppendedLaws
+pub mod ScanLaws
+pub mod RangeLaws
+pub mod SideLaws

@@ -1,0 +1,126 @@
+-- The rows after and before the contexts of one role: `after-..` of the least row after one of them, `before-..` of
+-- the rows that end before the last; `nests`, that the sizes of a tree nest; `hop-..`, from subtree to subtree.
+-- Assumes nothing.
+use mathlib.Core.Path.{_≡_, refl, sym, ap, _∙_}
+use mathlib.Core.Logic.{_⊎_, inl, inr, ⊎-elim}
+use mathlib.Core.List.{List}
+use Prim.Native.Nat.{ℕ, zero, suc, _+_, _-_, _<_, _≤_, min}
+use native.Mathlib.Nat.{le-refl, le-of-suc-le-suc, not-suc-le-zero, eq-or-lt-of-le}
+use native.Mathlib.Numerals.{add-one}
+use native.Mathlib.Omega.{arith}
+use Rattle.tree.specs.Table.{at}
+use Rattle.tree.specs.Rules.{Shape}
+use Rattle.tree.proofs.TreeLaws.{Under, less?, ancestor-under}
+use Rattle.tree.proofs.SoundLaws.{shape-steps, shape-descendants, shape-fits}
+use Rattle.scan.specs.OneRole.{RoleIn}
+use Rattle.scan.specs.Range.{EndsIn, firstAfter, Nests, Ended}
+use Rattle.scan.specs.Want.{Want}
+
+-- ── the least row after one of the contexts ──
+module _ (size : List ℕ) (n : ℕ) (cs : List ℕ) where
+  pub after-none : n ≡ firstAfter size n cs 0
+  unfolding firstAfter
+  after-none = refl
+
+  pub after-more : (k : ℕ) {f r : ℕ} → f ≡ firstAfter size n cs k → r ≡ min f (at cs k + at size (at cs k) + 1)
+      → r ≡ firstAfter size n cs (k + 1)
+  unfolding firstAfter
+  after-more k p q =
+      q ∙ ap (λ (x : ℕ). min x (at cs k + at size (at cs k) + 1)) p ∙ sym (ap (firstAfter size n cs) (add-one k))
+
+  pub after-least : (k i : ℕ) → i < k → firstAfter size n cs k ≤ at cs i + at size (at cs i) + 1
+  unfolding firstAfter
+  after-least zero i l = absurd (not-suc-le-zero l)
+  after-least (suc k) i l = ⊎-elim
+      (λ (e : i ≡ k). let q = ap (λ (j : ℕ). at cs j + at size (at cs j) + 1) e in omega arith)
+      (λ (m : i < k). omega (arith, after-least k i m))
+      (eq-or-lt-of-le (le-of-suc-le-suc l))
+
+  -- it is n, or the row after one of them
+  pub after-met : (k : ℕ) → (firstAfter size n cs k ≡ n)
+      ⊎ ((i : ℕ) × (i < k) × (firstAfter size n cs k ≡ at cs i + at size (at cs i) + 1))
+  unfolding firstAfter
+  after-met zero = inl refl
+  after-met (suc k) = ⊎-elim
+      (λ (l : at cs k + at size (at cs k) + 1 < firstAfter size n cs k). inr (k, le-refl (suc k), omega arith))
+      (λ (l : firstAfter size n cs k ≤ at cs k + at size (at cs k) + 1). ⊎-elim
+      (λ e. inl (omega arith))
+      (λ e. inr (e .0, omega (arith, e .1), omega (arith, e .2)))
+      (after-met k))
+      (less? (at cs k + at size (at cs k) + 1) (firstAfter size n cs k))
+
+  pub after-le : (k : ℕ) → firstAfter size n cs k ≤ n
+  unfolding firstAfter
+  after-le zero = le-refl n
+  after-le (suc k) = omega (arith, after-le k)
+
+-- the contexts' descendants are rows in use
+pub ends-in : {axis : ℕ} {size level kind name : List ℕ} {n : ℕ} {want : Want} {cs d : List ℕ}
+    → RoleIn axis size level kind name n cs want d → EndsIn size n cs
+ends-in pre = record {
+  few = pre .shape .few;
+  in-size = pre .shape .in-size;
+  inside = λ i l. shape-fits (pre .shape) _ (pre .contexts .inside i l);
+}
+
+-- ── nesting ──
+pub nests : {size level : List ℕ} {n : ℕ} → Shape size level n → Nests size n
+nests {size} {level} {n} s = record {
+  few = s .few;
+  in-size = s .in-size;
+  inside = shape-fits s;
+  within = within;
+}
+  where
+    under : (v w : ℕ) → v < n → w < n → v < w → w ≤ v + at size v → Under level v w
+    under v w m l a b = ancestor-under level n (shape-steps s) v w l .0 (shape-descendants s v w m l .1 (a, b))
+
+    -- below a row below v
+    through : (v w u : ℕ) → Under level v w → Under level w u → Under level v u
+    through v w u a b = record {
+      after = omega (arith, a .after, b .after);
+      deeper = λ k x y. ⊎-elim
+          (λ (q : w < k). omega (arith, a .deeper w (a .after) (le-refl w), b .deeper k q y))
+          (λ q. a .deeper k x q)
+          (less? w k);
+    }
+
+    within : (v w : ℕ) → v < n → v < w → w ≤ v + at size v → w + at size w ≤ v + at size v
+    within v w m a b =
+        let l : w < n = omega (arith, shape-fits s v m) in
+        let e : w + at size w < n = shape-fits s w l in
+        ⊎-elim
+        (λ (q : w < w + at size w).
+        shape-descendants s v (w + at size w) m e .0 (ancestor-under level n (shape-steps s) v (w + at size w) e .1
+        (through v w (w + at size w) (under v w m l a b) (under w (w + at size w) l e q (le-refl _)))) .1)
+        (λ (q : w + at size w ≤ w). omega arith)
+        (less? w (w + at size w))
+
+-- ── hopping from subtree to subtree ──
+-- the rows from w on, and before v, have ended before row c
+pub record ChildrenAdded (size : List ℕ) (c w v : ℕ) : Type 0 where
+  pub from : w ≤ v
+  pub to : v ≤ c
+  pub ended : (u : ℕ) → w ≤ u → u < v → u + at size u < c
+
+pub hop-start : {size : List ℕ} {c w : ℕ} → w ≤ c → ChildrenAdded size c w w
+hop-start {size} {c} {w} l = record { from = le-refl w; to = l; ended = λ u a b. absurd (omega arith) }
+
+-- past a subtree that has ended
+pub hop-next : {size : List ℕ} {n c w v : ℕ} → Nests size n → c < n → ChildrenAdded size c w v → v + at size v < c
+    → ChildrenAdded size c w (v + at size v + 1)
+hop-next {size} {n} {c} {w} {v} t m s l = record {
+  from = omega (arith, s .from);
+  to = omega arith;
+  ended = λ u a b. ⊎-elim
+      (λ (q : u < v). s .ended u a q)
+      (λ (q : v ≤ u). ⊎-elim
+      (λ (e : v ≡ u). let z = ap (at size) e in omega arith)
+      (λ (k : v < u). omega (arith, t .within v u (omega arith) k (omega arith)))
+      (eq-or-lt-of-le q))
+      (less? u v);
+}
+
+-- at a subtree that has not
+pub hop-stop : {size : List ℕ} {c w v : ℕ} → ChildrenAdded size c w v → c ≤ v + at size v → Ended size c w v
+hop-stop s l = record { from = s .from; to = s .to; ended = s .ended; holds = l }
