@@ -20,7 +20,7 @@ use Rattle.tree.proofs.SoundLaws.{both, either}
 use Rattle.scan.specs.Want.{fits}
 use Rattle.scan.specs.OneRole.{anyOn, oneRole, Wrote}
 use Rattle.scan.specs.Range.{rowsIn, Appended, RangeIn}
-use Rattle.ways.specs.Path.{onPath, pathRows, lonePath, PathIn, LoneIn}
+use Rattle.ways.specs.Path.{onPath, pathRows, upward, lonePath, PathIn, LoneIn}
 use Rattle.scan.proofs.WantLaws.{fits-any}
 use Rattle.scan.proofs.RangeLaws.{Covered, cover-start, cover-skip, cover-asks, cover-range, cover-done}
 use Rattle.ways.proofs.ClimbLaws.{parent-low, ancestor-path}
@@ -37,35 +37,27 @@ any-one axis level [] w e = absurd (omega arith)
 any-one axis level (c ∷ []) w e = or-false (onAxis axis level c w)
 any-one axis level (c ∷ d ∷ cs) w e = absurd (omega arith)
 
--- ── what the test asks ──
-module _ (many axis : ℕ) (want : Want) where
-  -- there is not one context
-  pub lone-many : (many ≡ 1 → ⊥) → lonePath many axis want ≡ false
-  unfolding lonePath
-  lone-many n = rw (ne-eqb many 1 n)
+-- ── what is asked ──
+module _ (axis : ℕ) (want : Want) where
+  -- the parent
+  pub upward-parent : axis ≡ 5 → upward axis want ≡ true
+  unfolding upward
+  upward-parent e = rw e
 
-  module _ (one : many ≡ 1) where
-    -- its parent is asked for
-    pub lone-parent : axis ≡ 5 → lonePath many axis want ≡ true
-    unfolding lonePath
-    lone-parent e = rw (one, e)
+  -- the way up: what is wanted decides
+  pub upward-above : 6 ≤ axis → axis ≤ 7 → upward axis want ≡ (eqb (want .kind) 5 && eqb (want .name) 0)
+  unfolding upward
+  upward-above l m =
+      ⊎-elim (λ (e : axis ≡ 7). rw e) (λ (k : axis < 7). let e : axis ≡ 6 = omega arith in rw e) (eq-or-lt-of-le m)
 
-    -- the way up is asked for: what is wanted decides
-    pub lone-above : 6 ≤ axis → axis ≤ 7 → lonePath many axis want ≡ (eqb (want .kind) 5 && eqb (want .name) 0)
-    unfolding lonePath
-    lone-above l m =
-        ⊎-elim (λ (e : axis ≡ 7). rw (one, e)) (λ (k : axis < 7). let e : axis ≡ 6 = omega arith in rw (one, e))
-        (eq-or-lt-of-le m)
-
-    -- another axis
-    pub lone-other : (axis ≡ 5 → ⊥) → (axis < 6) ⊎ (7 < axis) → lonePath many axis want ≡ false
-    unfolding lonePath
-    lone-other n out = simp (
-      eq-eqb many 1 one,
-      ne-eqb axis 5 n,
-      ne-eqb axis 6 (λ e. ⊎-elim (λ (l : axis < 6). omega arith) (λ (l : 7 < axis). omega arith) out),
-      ne-eqb axis 7 (λ e. ⊎-elim (λ (l : axis < 6). omega arith) (λ (l : 7 < axis). omega arith) out),
-    )
+  -- another axis
+  pub upward-other : (axis ≡ 5 → ⊥) → (axis < 6) ⊎ (7 < axis) → upward axis want ≡ false
+  unfolding upward
+  upward-other n out = simp (
+    ne-eqb axis 5 n,
+    ne-eqb axis 6 (λ e. ⊎-elim (λ (l : axis < 6). omega arith) (λ (l : 7 < axis). omega arith) out),
+    ne-eqb axis 7 (λ e. ⊎-elim (λ (l : axis < 6). omega arith) (λ (l : 7 < axis). omega arith) out),
+  )
 
 -- ── what it says where it passes ──
 module _ (many axis : ℕ) (want : Want) (e : lonePath many axis want ≡ true) where
@@ -75,7 +67,7 @@ module _ (many axis : ℕ) (want : Want) (e : lonePath many axis want ≡ true) 
 
   -- one context, and one of the axes
   tests : (eqb many 1 ≡ true) × ((eqb axis 5 || ((eqb axis 6 || eqb axis 7) && any)) ≡ true)
-  unfolding lonePath
+  unfolding lonePath upward
   tests = both (eqb many 1) _ e
 
   one-context : many ≡ 1

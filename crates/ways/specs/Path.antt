@@ -21,10 +21,13 @@ onPath level (suc v) w = eqb w v || ancestor level w v
 unfoldable pub pathRows : List ℕ → ℕ → ℕ → List ℕ
 pathRows level n link = gather (onPath level link) n
 
--- of so many contexts there is one, and its parent is asked for, or all its ancestors, with itself or without
+-- the parent is asked for, or all ancestors, with the context itself or without
+unfoldable pub upward : ℕ → Want → Bool
+upward axis want = eqb axis 5 || ((eqb axis 6 || eqb axis 7) && (eqb (want .kind) 5 && eqb (want .name) 0))
+
+-- of so many contexts there is one, and that is asked for
 unfoldable pub lonePath : ℕ → ℕ → Want → Bool
-lonePath many axis want =
-    eqb many 1 && (eqb axis 5 || ((eqb axis 6 || eqb axis 7) && (eqb (want .kind) 5 && eqb (want .name) 0)))
+lonePath many axis want = eqb many 1 && upward axis want
 
 -- the path of a link has k rows, and there is room for them
 pub record PathIn (size level : List ℕ) (n : ℕ) (up : List ℕ) (link k : ℕ) (out : List ℕ) : Type 0 where

@@ -2,23 +2,28 @@
 ghost use mathlib.Core.Path.{_≡_};
 ghost use Rattle.scan.specs.Want.{fits};
 ghost use Rattle.scan.specs.OneRole.{oneRole, Wrote};
-ghost use Rattle.ways.specs.Path.{pathRows, lonePath, PathIn, LoneIn};
+ghost use Rattle.ways.specs.Path.{pathRows, upward, lonePath, PathIn, LoneIn};
 use scan::emit_one;
 use scan::want::Want;
 use tree::logic::both;
 
-// Whether there is one context, and its parent is asked for, or all its ancestors, with itself or without.
-pub fn is_lone(contexts: usize, axis: usize, want: Want) -> bool
-    ensures { λ r. ⌜ r ≡ lonePath contexts axis want ⌝ }
+// Whether the axis and what is wanted ask for the parent, or for all ancestors, with the context itself or without.
+fn is_upward(axis: usize, want: Want) -> bool
+    ensures { λ r. ⌜ r ≡ upward axis want ⌝ }
 {
-    if contexts != 1 {
-        return false;
-    }
     match axis {
         5 => true,
         6..=7 => both(want.kind == 5, want.name == 0),
         _ => false,
     }
+}
+
+// Whether there is one context, and that is asked for. The two are joined without a branch: what does not depend on the
+// contexts is then found once for all roles.
+pub fn is_lone(contexts: usize, axis: usize, want: Want) -> bool
+    ensures { λ r. ⌜ r ≡ lonePath contexts axis want ⌝ }
+{
+    both(contexts == 1, is_upward(axis, want))
 }
 
 // Writes the row that a link names, one more than the row, 0 for none, and its ancestors, n rows in all, to the front
