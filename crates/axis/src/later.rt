@@ -1,7 +1,7 @@
-// Following-sibling: the later siblings of the contexts of one role, group by group. A group is a context and those
-// after it that lie before the end of its parent's descendants; there ends what the group reaches, and the next group
-// begins. Contexts of one parent reach what the first of them reaches, and those rows are written as they are met; what
-// the contexts of other groups reach goes through the set of `one_role`.
+// Following-sibling, group by group. A group is a context and those after it in the same parent's subtree: what the
+// group reaches ends where that subtree ends, and the next group begins behind it. Where the contexts of a group have
+// one parent, they reach what the first of them reaches, and those rows are written as they are met. What other
+// groups reach goes through the set of `one_role`.
 use super::role::one_role;
 use direct::children::append_children;
 use scan::want::Want;

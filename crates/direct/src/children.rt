@@ -13,7 +13,7 @@ struct Stand {
 }
 
 // Appends children of row p that fit, from child `row` on and before row `end`: the leaves that follow one another, and
-// the child after them. The next row after a leaf does not wait for its size.
+// the child after them. After a leaf the next row is known before its size has been read.
 fn append_leaves(
     size: &[usize],
     level: &[usize],

@@ -1,5 +1,5 @@
-// Preceding-sibling, where the parents do not fall from one context of a role to the next: what each context adds comes
-// after what is written, since it is the siblings before it that are not before the context ahead of it. They are
+// Preceding-sibling, for contexts whose parents do not fall from one context to the next. Each context then adds only
+// its siblings between the context ahead of it and itself. They come after all rows written so far, so they are
 // written as they are met, without a set.
 use super::children::append_children;
 use scan::want::Want;

@@ -1,6 +1,6 @@
 // The row of a key, the least row whose key is bad, and the least row of a piece whose key is taken, by rows chained
-// in buckets. The column heads has one more than the last row of each bucket, next one more than the row before a row
-// in its bucket, and 0 is none.
+// in buckets. A link is one more than a row, or 0 for none: `heads` has for each bucket a link to its last row, `next`
+// for each row a link to the row before it in its bucket.
 ghost use mathlib.Core.Path.{_≡_};
 ghost use Prim.Native.Nat.{_<_, _≤_};
 ghost use lib.ListN.{length};

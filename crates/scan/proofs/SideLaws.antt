@@ -1,5 +1,5 @@
 -- The rows after and before the contexts of one role: `after-..` of the least row after one of them, `before-..` of
--- the rows that end before the last; `nests`, that the sizes of a tree nest; `hop-..`, from subtree to subtree.
+-- the rows that end before the last; `nests`, that the sizes of a tree nest; `passed-..`, from subtree to subtree.
 -- Assumes nothing.
 use mathlib.Core.Path.{_≡_, refl, sym, ap, _∙_}
 use mathlib.Core.Logic.{_⊎_, inl, inr, ⊎-elim}
@@ -96,20 +96,20 @@ nests {size} {level} {n} s = record {
         (λ (q : w + at size w ≤ w). omega arith)
         (less? w (w + at size w))
 
--- ── hopping from subtree to subtree ──
+-- ── from subtree to subtree ──
 -- the rows from w on, and before v, have ended before row c
-pub record ChildrenAdded (size : List ℕ) (c w v : ℕ) : Type 0 where
+pub record PassedOver (size : List ℕ) (c w v : ℕ) : Type 0 where
   pub from : w ≤ v
   pub to : v ≤ c
   pub ended : (u : ℕ) → w ≤ u → u < v → u + at size u < c
 
-pub hop-start : {size : List ℕ} {c w : ℕ} → w ≤ c → ChildrenAdded size c w w
-hop-start {size} {c} {w} l = record { from = le-refl w; to = l; ended = λ u a b. absurd (omega arith) }
+pub passed-start : {size : List ℕ} {c w : ℕ} → w ≤ c → PassedOver size c w w
+passed-start {size} {c} {w} l = record { from = le-refl w; to = l; ended = λ u a b. absurd (omega arith) }
 
 -- past a subtree that has ended
-pub hop-next : {size : List ℕ} {n c w v : ℕ} → Nests size n → c < n → ChildrenAdded size c w v → v + at size v < c
-    → ChildrenAdded size c w (v + at size v + 1)
-hop-next {size} {n} {c} {w} {v} t m s l = record {
+pub passed-next : {size : List ℕ} {n c w v : ℕ} → Nests size n → c < n → PassedOver size c w v → v + at size v < c
+    → PassedOver size c w (v + at size v + 1)
+passed-next {size} {n} {c} {w} {v} t m s l = record {
   from = omega (arith, s .from);
   to = omega arith;
   ended = λ u a b. ⊎-elim
@@ -122,5 +122,5 @@ hop-next {size} {n} {c} {w} {v} t m s l = record {
 }
 
 -- at a subtree that has not
-pub hop-stop : {size : List ℕ} {c w v : ℕ} → ChildrenAdded size c w v → c ≤ v + at size v → Ended size c w v
-hop-stop s l = record { from = s .from; to = s .to; ended = s .ended; holds = l }
+pub passed-stop : {size : List ℕ} {c w v : ℕ} → PassedOver size c w v → c ≤ v + at size v → Ended size c w v
+passed-stop s l = record { from = s .from; to = s .to; ended = s .ended; holds = l }

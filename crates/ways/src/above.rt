@@ -1,7 +1,8 @@
-// The ancestors of the contexts of one role, in order and without a set. The contexts ascend: a row on the way up from
-// one that comes before the one ahead of it has that one in its subtree too and is written already, and the others come
-// after all that are written. They are met from the last to the first, so they are turned round once they are written.
-// A link is one more than a row, or 0 for none, as in the column of parents.
+// The ancestors of the contexts of one role, in order and without a set. Contexts ascend. Of the rows on the way up
+// from a context, those before the context ahead of it are that one's ancestors too, and are written already; the
+// others are new, and come after all that is written. The way up meets them from the last to the first, so each
+// stretch is turned round once it is written. A link is one more than a row, or 0 for none, as in the column of
+// parents.
 ghost use mathlib.Core.Path.{_≡_};
 ghost use mathlib.Core.List.{reverse};
 ghost use Prim.Native.Nat.{_+_, _<_, _≤_};

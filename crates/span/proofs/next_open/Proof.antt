@@ -5,12 +5,12 @@ use native.Mathlib.Omega.{arith}
 use borrow.Author.Needs.{needs}
 use lib.ListN.{length}
 use Rattle.tree.specs.Table.{at}
-use Rattle.scan.proofs.SideLaws.{ChildrenAdded, hop-start, hop-next, hop-stop}
+use Rattle.scan.proofs.SideLaws.{PassedOver, passed-start, passed-next, passed-stop}
 use Rattle.span.proofs.next_open.Statement.{statement}
 use Rattle.span.proofs.next_open.Tie as tie
 
 abbrev Inv-loop : tie.InvT-loop
-Inv-loop size count w c v₀ v = ChildrenAdded size c w v
+Inv-loop size count w c v₀ v = PassedOver size c w v
 
 abbrev μ-loop : tie.MeasureT-loop
 μ-loop size count w c v₀ v = c - v
@@ -24,7 +24,7 @@ inside c =
     (p .0 .inside (c .before .loop .v) (omega (arith, p .2, c .loop-test .taken)), p .0 .few, p .0 .in-size)
 
 loop-holds : tie.Need-loop-holds Inv-loop μ-loop
-loop-holds c = hop-start (c .pre .1)
+loop-holds c = passed-start (c .pre .1)
 
 mul-end : tie.Need-mul-end Inv-loop μ-loop
 mul-end c = omega (arith, inside c)
@@ -36,7 +36,7 @@ add-end : tie.Need-add-end Inv-loop μ-loop
 add-end c = omega (arith, inside (c .before))
 
 returns : tie.Need-returns Inv-loop μ-loop
-returns c = hop-stop (c .before .before .before .loop .inv) (c .if1 .taken)
+returns c = passed-stop (c .before .before .before .loop .inv) (c .if1 .taken)
 
 add-v : tie.Need-add-v Inv-loop μ-loop
 add-v c = omega (arith, inside (c .before .before))
@@ -48,10 +48,10 @@ loop-again : tie.Need-loop-again Inv-loop μ-loop
 loop-again c =
     let s = c .before .before .before in
     let p = s .before .pre in
-    hop-next (p .0) (p .2) (s .loop .inv) (c .if1 .left)
+    passed-next (p .0) (p .2) (s .loop .inv) (c .if1 .left)
 
 returns-2 : tie.Need-returns-2 Inv-loop μ-loop
-returns-2 c = hop-stop (c .before .loop .inv) (omega (arith, c .loop-test .left))
+returns-2 c = passed-stop (c .before .loop .inv) (omega (arith, c .loop-test .left))
 
 pub next-open-spec : {M : Type 1} → statement M
 next-open-spec =
