@@ -11,9 +11,10 @@ use tree::logic::both;
 fn is_upward(axis: usize, want: Want) -> bool
     ensures { λ r. ⌜ r ≡ upward axis want ⌝ }
 {
+    let any = both(want.kind == 5, want.name == 0);
     match axis {
         5 => true,
-        6..=7 => both(want.kind == 5, want.name == 0),
+        6..=7 => any,
         _ => false,
     }
 }

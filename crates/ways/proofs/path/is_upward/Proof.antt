@@ -15,10 +15,9 @@ returns c = sym (upward-parent _ _ (c .match .keys1))
 
 returns-2 : tie.Need-returns-2
 returns-2 c =
-    let t = c .before .before .before in
-    let other = t .before .before .match .rest .1 in
-    c .both .ensures ∙ sym (upward-above _ _ (omega (arith, t .before .if1 .left, other))
-    (omega (arith, t .if2 .taken)))
+    let m = c .before .before in
+    m .before .both .ensures ∙ sym (upward-above _ _ (omega (arith, c .before .if1 .left, m .match .rest .1))
+    (omega (arith, c .if2 .taken)))
 
 returns-3 : tie.Need-returns-3
 returns-3 c = sym (upward-other _ _ (c .before .match .rest .1) (inl (omega (arith, c .if1 .taken))))
