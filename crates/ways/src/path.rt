@@ -76,8 +76,8 @@ pub fn lone_rows(
     let c = rows[0];
     let q = up[c];
     match axis {
-        7 => write_path(size, level, count, up, c + 1, level[c] + 1, out),
         6 => write_path(size, level, count, up, q, level[c], out),
+        7 => write_path(size, level, count, up, c + 1, level[c] + 1, out),
         _ => {
             if q == 0 {
                 return 0;

@@ -23,11 +23,6 @@ mul-q c = omega (arith, lone-row (head c .pre), head c .pre .asks .shape .few)
 element-copy-out-q : tie.Need-element-copy-out-q
 element-copy-out-q c = omega (arith, lone-row (head c .pre), head c .pre .asks .shape .few)
 
-add-write-path : tie.Need-add-write-path
-add-write-path c =
-    let h = head (c .before .before) .pre in
-    omega (arith, lone-row h, h .asks .shape .few)
-
 mul-write-path : tie.Need-mul-write-path
 mul-write-path c =
     let h = head (c .before .before) .pre in
@@ -38,15 +33,15 @@ shared-slice-read-write-path c =
     let h = head (c .before .before .before) .pre in
     omega (arith, lone-row h, h .asks .shape .in-level)
 
-add-write-path-2 : tie.Need-add-write-path-2
-add-write-path-2 c =
-    let h = head (c .before .before .before) .pre in
-    omega (arith, h .asks .shape .levels _ (lone-row h) .low)
-
 write-path-requires : tie.Need-write-path-requires
 write-path-requires c κs =
     let arm = c .before .before in
-    lone-selves-asks (head (arm .before .before) .pre) (arm .match .keys1)
+    lone-above-asks (head (arm .before .before) .pre) (arm .match .keys1)
+
+add-write-path : tie.Need-add-write-path
+add-write-path c =
+    let h = head (c .before .before) .pre in
+    omega (arith, lone-row h, h .asks .shape .few)
 
 mul-write-path-2 : tie.Need-mul-write-path-2
 mul-write-path-2 c =
@@ -58,16 +53,21 @@ shared-slice-read-write-path-2 c =
     let h = head (c .before .before .before) .pre in
     omega (arith, lone-row h, h .asks .shape .in-level)
 
+add-write-path-2 : tie.Need-add-write-path-2
+add-write-path-2 c =
+    let h = head (c .before .before .before) .pre in
+    omega (arith, h .asks .shape .levels _ (lone-row h) .low)
+
 write-path-requires-2 : tie.Need-write-path-requires-2
 write-path-requires-2 c κs =
     let arm = c .before .before in
-    lone-above-asks (head (arm .before .before) .pre) (arm .match .keys2)
+    lone-selves-asks (head (arm .before .before) .pre) (arm .match .keys2)
 
 returns : tie.Need-returns
 returns c =
     let arm = c .before in
     let other = arm .match .rest in
-    lone-parent-none (head (arm .before .before) .pre) (other .0 .1) (other .1) (c .if1 .taken)
+    lone-parent-none (head (arm .before .before) .pre) (other .1) (other .0 .1) (c .if1 .taken)
 
 sub-emit-one : tie.Need-sub-emit-one
 sub-emit-one c = search needs
@@ -77,7 +77,7 @@ emit-one-requires c κs =
     let arm = c .before .before in
     let other = arm .match .rest in
     let q = c .before .if1 .left in
-    (omega arith, lone-parent-asks (head (arm .before .before) .pre) (other .0 .1) (other .1) _ (omega arith))
+    (omega arith, lone-parent-asks (head (arm .before .before) .pre) (other .1) (other .0 .1) _ (omega arith))
 
 same-length : tie.Need-same-length
 same-length c = search needs
@@ -86,7 +86,7 @@ returns-2 : tie.Need-returns-2
 returns-2 c =
     let call = c .before .before in
     let arm = call .before .before .before in
-    wrote-as (sym (lone-selves-rows (head (arm .before .before) .pre) (arm .match .keys1))) (call .write-path .ensures)
+    wrote-as (sym (lone-above-rows (head (arm .before .before) .pre) (arm .match .keys1))) (call .write-path .ensures)
 
 same-length-2 : tie.Need-same-length-2
 same-length-2 c = search needs
@@ -95,7 +95,7 @@ returns-3 : tie.Need-returns-3
 returns-3 c =
     let call = c .before .before in
     let arm = call .before .before .before in
-    wrote-as (sym (lone-above-rows (head (arm .before .before) .pre) (arm .match .keys2))) (call .write-path2 .ensures)
+    wrote-as (sym (lone-selves-rows (head (arm .before .before) .pre) (arm .match .keys2))) (call .write-path2 .ensures)
 
 same-length-3 : tie.Need-same-length-3
 same-length-3 c = search needs
@@ -106,7 +106,7 @@ returns-4 c =
     let arm = call .before .before .before in
     let other = arm .match .rest in
     let q = call .before .before .if1 .left in
-    lone-parent-done (head (arm .before .before) .pre) (other .0 .1) (other .1) _ (omega arith)
+    lone-parent-done (head (arm .before .before) .pre) (other .1) (other .0 .1) _ (omega arith)
     (call .emit-one .ensures)
 
 pub lone-rows-spec : {M : Type 1} → statement M
@@ -116,13 +116,13 @@ lone-rows-spec =
     shared-slice-read-c
     mul-q
     element-copy-out-q
-    add-write-path
     mul-write-path
     shared-slice-read-write-path
-    add-write-path-2
     write-path-requires
+    add-write-path
     mul-write-path-2
     shared-slice-read-write-path-2
+    add-write-path-2
     write-path-requires-2
     returns
     sub-emit-one
