@@ -10,9 +10,9 @@ ghost use Rattle.tree.specs.Table.{at};
 ghost use Rattle.tree.specs.Pairs.{before, outOfOrder};
 ghost use Rattle.tree.specs.Refusal.{pairCheck};
 ghost use Rattle.asked.specs.Places.{Ordered, Inside};
+use basics::both;
+use basics::either;
 use tree::Checked;
-use tree::logic::both;
-use tree::logic::either;
 
 // Whether the pair (r, v) comes before the pair (q, w).
 fn comes_before(r: usize, v: usize, q: usize, w: usize) -> bool

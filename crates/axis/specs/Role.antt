@@ -5,8 +5,9 @@ use mathlib.Core.List.{List}
 use Prim.Native.Nat.{ℕ}
 use lib.Dec.{eqb}
 use Rattle.tree.specs.Axis.{axisOk}
-use Rattle.scan.specs.OneRole.{oneRole, RoleIn, Wrote, Parents, Roots}
+use Rattle.scan.specs.OneRole.{oneRole, RoleIn, Wrote}
 use Rattle.scan.specs.Want.{fits}
+use Rattle.links.specs.Links.{UpFor}
 use Rattle.marks.specs.RowSet.{Blank}
 use Rattle.scan.specs.declared.want.Want.{Want}
 
@@ -21,19 +22,6 @@ aboveAxis axis = eqb axis 6 || eqb axis 7
 -- the axes whose rows are put into a set first
 unfoldable pub markedAxis : ℕ → Bool
 markedAxis axis = eqb axis 2 || (eqb axis 5 || (eqb axis 10 || eqb axis 11))
-
--- the axes that follow parents
-unfoldable pub climbsAxis : ℕ → Bool
-climbsAxis axis = eqb axis 5 || (eqb axis 6 || (eqb axis 7 || (eqb axis 10 || eqb axis 11)))
-
--- the axes that stop at the ends of a tree
-unfoldable pub sideAxis : ℕ → Bool
-sideAxis axis = eqb axis 8 || eqb axis 9
-
--- up holds for each row what the axis follows: its parent, or where the axis stops at the ends of a tree its root
-pub record UpFor (axis : ℕ) (level : List ℕ) (n : ℕ) (up : List ℕ) : Type 0 where
-  pub parents : climbsAxis axis ≡ true → Parents level n up
-  pub roots : sideAxis axis ≡ true → Roots level n up
 
 -- an axis, trees, what the axis follows in them, contexts, an empty set and room for the rows
 pub record RoleAsk (axis : ℕ) (size level kind name : List ℕ) (n : ℕ) (up cs : List ℕ) (want : Want)

@@ -22,10 +22,10 @@ use Rattle.tree.proofs.TreeLaws.{less?}
 use Rattle.tree.proofs.SoundLaws.{both, sound-shape}
 use Rattle.scan.specs.OneRole.{anyOn, oneRole}
 use Rattle.runs.specs.Runs.{pairsFrom, runRows, RunEnd}
-use Rattle.lines.specs.StepReady.{StepReady}
+use Rattle.runs.specs.StepReady.{StepReady}
 use Rattle.bounds.specs.Bounds.{sumOf, onCount, FewRows}
-use Rattle.lines.proofs.RunLaws.{roleRows}
-use Rattle.lines.proofs.CountedLaws.{length-role, pairs-fit, step-at, step-end}
+use Rattle.runs.proofs.RunLaws.{roleRows}
+use Rattle.runs.proofs.StepRunLaws.{length-role, pairs-fit, step-at, step-end}
 use Rattle.bounds.proofs.GatherLaws.{gather-within, gather-less, gather-either}
 use Rattle.bounds.proofs.SumLaws.{sum-append}
 

@@ -15,7 +15,8 @@ use Rattle.tree.specs.Pairs.{Pair, pairsOf, withRole, distinct}
 use Rattle.tree.specs.declared.Ask.{Ask}
 use Rattle.tree.specs.Step.{listed, reached, linesOf, stepList}
 use Rattle.bounds.specs.Bounds.{rolesIn}
-use Rattle.lines.proofs.CountedLaws.{gather-most, length-role}
+use Rattle.tree.proofs.SearchLaws.{gather-most}
+use Rattle.runs.proofs.StepRunLaws.{length-role}
 
 -- ── the lines of some roles ──
 lines-most : (t : Table) (a : Ask) (ps : List Pair) (rs : List ℕ) → length (linesOf t a ps rs) ≤ length rs * t .count

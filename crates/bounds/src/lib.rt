@@ -9,8 +9,8 @@ ghost use Rattle.tree.specs.Table.{tableOf};
 ghost use Rattle.tree.specs.Pairs.{pairsOf};
 ghost use Rattle.tree.specs.Step.{stepList};
 ghost use Rattle.scan.specs.OneRole.{Parents};
-ghost use Rattle.axis.specs.Role.{climbsAxis};
-ghost use Rattle.lines.specs.StepReady.{StepReady};
+ghost use Rattle.links.specs.Links.{climbsAxis};
+ghost use Rattle.runs.specs.StepReady.{StepReady};
 ghost use Rattle.bounds.specs.Bounds.{rolesIn, sumOf, onCount, spanOf, linkSpan, parentSpan, FewRows};
 use tree::Ask;
 

@@ -6,11 +6,11 @@ ghost use Rattle.carry.specs.CarryLeaves.{CarryLeaves};
 mod writing; // writing.rt: all pairs
 
 use crate::writing::Move;
+use basics::smaller;
 use moves::checks;
 use moves::moved::moved_to;
 use tree::Carried;
 use tree::Checked;
-use tree::logic::smaller;
 
 // The pairs after an edit of a table of so many rows, told by the edit's first moved row and move: their number, and
 // they stand at the front of the result columns; or refusal 1, 3, 4, 5, 17 or 8, which changes no column.

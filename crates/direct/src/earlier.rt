@@ -2,8 +2,8 @@
 // its siblings between the context ahead of it and itself. They come after all rows written so far, so they are
 // written as they are met, without a set.
 use super::children::append_children;
+use basics::greater;
 use scan::want::Want;
-use tree::logic::greater;
 ghost use mathlib.Core.Path.{_≡_};
 ghost use mathlib.Core.Bool.{true, false};
 ghost use Prim.Native.Nat.{_≤_};

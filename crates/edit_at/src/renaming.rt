@@ -7,9 +7,9 @@ ghost use Rattle.tree.specs.Sound.{hasName};
 ghost use Rattle.edit_at.specs.EditLeaves.{EditLeaves};
 ghost use Rattle.piece.specs.RowFound.{RowFound};
 ghost use Rattle.edit_at.specs.AtRow.{renameAt};
+use basics::either;
 use tree::Done;
 use tree::Edited;
-use tree::logic::either;
 
 // Whether a row of this kind cannot get this name: it has none, or the name is 0.
 fn unfit(kind: usize, new_name: usize) -> bool

@@ -19,8 +19,8 @@ use Rattle.tree.proofs.SoundLaws.{both-of}
 use Rattle.tree.proofs.RootLaws.{is-root, same-tree}
 use Rattle.kept.specs.KeptOf.{keptOf, KeptIn}
 use Rattle.scan.specs.OneRole.{Roots}
-use Rattle.axis.specs.Role.{sideAxis}
-use Rattle.axis.proofs.RoleAxisLaws.{side-of}
+use Rattle.links.specs.Links.{sideAxis}
+use Rattle.links.proofs.LinkAxisLaws.{side-of}
 use Rattle.scan.proofs.RangeLaws.{contexts-rise}
 use Rattle.kept.proofs.KeptOfLaws.{keptRow, keptBelow, kept-rows, row-none, row-dropped, row-kept}
 use Rattle.kept.proofs.KeptOfLaws.{below-skip, below-next, below-none}

@@ -5,9 +5,9 @@ ghost use Prim.Native.Nat.{_<_};
 ghost use lib.Dec.{leb};
 ghost use lib.ListN.{length};
 ghost use Rattle.scan.specs.OneRole.{Roots};
-ghost use Rattle.axis.specs.Role.{sideAxis};
+ghost use Rattle.links.specs.Links.{sideAxis};
 ghost use Rattle.kept.specs.KeptOf.{keptOf, KeptIn};
-use tree::logic::greater;
+use basics::greater;
 
 // 1 where row c does not lie before row pos, 0 where it does.
 fn past(pos: usize, c: usize) -> usize

@@ -26,36 +26,10 @@ use Rattle.scan.specs.OneRole.{oneRole}
 use Rattle.marks.specs.RowSet.{Blank}
 use Rattle.axis.specs.Role.{RoleAsk, RoleDone}
 use Rattle.runs.specs.Runs.{pairsFrom, runRows, RunEnd}
-use Rattle.lines.specs.StepReady.{StepReady}
+use Rattle.runs.specs.StepReady.{StepReady}
 use Rattle.scan.proofs.WroteLaws.{wrote-length}
-use Rattle.lines.proofs.RunLaws.{roleRows, step-run, run-contexts}
-
--- a search gathers no more than it looks at
-pub gather-most : (f : ℕ → Bool) (n : ℕ) → length (gather f n) ≤ n
-gather-most f zero = rw (gather-zero f) (le-refl 0)
-gather-most f (suc n) =
-    omega (arith, gather-length f n, gather-most f n, one (f n))
-  where
-    one : (b : Bool) → length (only b n) ≤ 1
-    one true = le-refl 1
-    one false = omega arith
-
-pub length-role : (r : ℕ) (cs : List ℕ) → length (withRole r cs) ≡ length cs
-unfolding withRole
-length-role r [] = refl
-length-role r (c ∷ cs) = ap suc (length-role r cs)
-
--- refusals 6 and 7 do not apply
-pub asked-parts : (a : Ask) → askCheck a ≡ Passed → (axisOk (a .axis) ≡ true) × (testOk (a .test) (a .name) ≡ true)
-unfolding askCheck
-asked-parts a e =
-    let p = next-passed _ _ .0 e in
-    (not-false _ (given-passed _ _ _ (p .0)), not-false _ (given-passed _ _ _ (p .1)))
-
--- no pairs, no lines
-pub step-none : (t : Table) (a : Ask) → stepList t a [] ≡ []
-unfolding stepList linesOf distinct
-step-none t a = refl
+use Rattle.runs.proofs.RunLaws.{roleRows, run-contexts}
+use Rattle.runs.proofs.StepRunLaws.{asked-parts, length-role, pairs-fit, step-at, step-end, row-most}
 
 -- the lines before place i are counted
 pub record Counted (t : Table) (a : Ask) (role row words scratch : List ℕ) (total i : ℕ) : Type 0 where
@@ -66,20 +40,6 @@ pub record Counted (t : Table) (a : Ask) (role row words scratch : List ℕ) (to
   sum : total + length (stepList t a (pairsFrom role row i)) ≡ length (stepList t a (pairsOf role row))
 
 module _ (t : Table) (a : Ask) (up role row : List ℕ) (s : StepReady t a up role row) where
-  pub pairs-fit : PairsFit role row (t .count)
-  pairs-fit = pair-passes role row (t .count) .0 (s .call .pairs)
-
-  -- the lines of the run at i, and those after it
-  pub step-at : (i j : ℕ) → RunEnd role i j
-      → stepList t a (pairsFrom role row i)
-      ≡ withRole (at role i) (roleRows t a (runRows row i j)) ++ stepList t a (pairsFrom role row j)
-  step-at i j e = step-run role row (t .count) i j pairs-fit e t a (asked-parts a (s .call .asked) .1)
-
-  -- past the last pair no line is left
-  pub step-end : (i : ℕ) → length role ≤ i → stepList t a (pairsFrom role row i) ≡ []
-  unfolding pairsOf
-  step-end i l = ap (λ (rs : List ℕ). stepList t a (pairsOf rs (drop i row))) (drop-of-length-le role l) ∙ step-none t a
-
   pub run-asks : (i j : ℕ) (words out : List ℕ) → RunEnd role i j → Blank words
       → length (roleRows t a (runRows row i j)) ≤ length out
       → RoleAsk (a .axis) (t .size) (t .level) (t .kind) (t .name) (t .count) up
@@ -88,7 +48,7 @@ module _ (t : Table) (a : Ask) (up role row : List ℕ) (s : StepReady t a up ro
     known = asked-parts a (s .call .asked) .0;
     asks = record {
       shape = sound-shape t (s .call .sound);
-      contexts = run-contexts role row (t .count) i j pairs-fit e;
+      contexts = run-contexts role row (t .count) i j (pairs-fit t a up role row s) e;
       in-kind = s .call .sound .in-use .in-kind;
       in-name = s .call .sound .in-use .in-name;
       room = room;
@@ -107,36 +67,31 @@ module _ (t : Table) (a : Ask) (up role row : List ℕ) (s : StepReady t a up ro
     sum = omega arith;
   }
 
-  -- one role reaches at most all rows
-  pub row-most : (i j : ℕ) → length (roleRows t a (runRows row i j)) ≤ 4096
-  unfolding oneRole
-  row-most i j = le-trans (gather-most _ (t .count)) (s .call .sound .in-use .few)
-
   pub counted-asks : {words scratch : List ℕ} {total i : ℕ} (j : ℕ) → Counted t a role row words scratch total i
       → RunEnd role i j
       → RoleAsk (a .axis) (t .size) (t .level) (t .kind) (t .name) (t .count) up
       (runRows row i j) (wantOf a) words scratch
   counted-asks {words} {scratch} {i = i} j c e =
-      run-asks i j words scratch e (c .blank) (let w = c .wide in omega (arith, row-most i j))
+      run-asks i j words scratch e (c .blank) (let w = c .wide in omega (arith, row-most t a up role row s i j))
 
   module _ {words scratch words′ scratch′ : List ℕ} {total i r j : ℕ} (c : Counted t a role row words scratch total i)
       (e : RunEnd role i j)
       (d : RoleDone (a .axis) (t .level) (t .kind) (t .name) (t .count)
       (runRows row i j) (wantOf a) words′ scratch r scratch′) where
     pub counted-small : r ≤ 4096
-    counted-small = omega (arith, d .wrote .many, row-most i j)
+    counted-small = omega (arith, d .wrote .many, row-most t a up role row s i j)
 
     pub counted-more : Counted t a role row words′ scratch′ (total + r) j
     counted-more =
         let many : r ≡ length (roleRows t a (runRows row i j)) = d .wrote .many in
         let rows : List ℕ = roleRows t a (runRows row i j) in
-        let lines = ap length (step-at i j e) ∙ length-append (withRole (at role i) rows) _ in
+        let lines = ap length (step-at t a up role row s i j e) ∙ length-append (withRole (at role i) rows) _ in
         let one = length-role (at role i) rows in
         let k = e .after in
         record {
           within = e .within;
           blank = d .blank;
-          wide = wrote-length (d .wrote) (let w = c .wide in omega (arith, row-most i j)) ∙ c .wide;
+          wide = wrote-length (d .wrote) (let w = c .wide in omega (arith, row-most t a up role row s i j)) ∙ c .wide;
           small = omega (arith, c .small, counted-small);
           sum = omega (arith, c .sum);
         }
@@ -145,4 +100,4 @@ module _ (t : Table) (a : Ask) (up role row : List ℕ) (s : StepReady t a up ro
       → length role ≤ i
       → total ≡ length (stepList t a (pairsOf role row))
   counted-done {i = i} c l =
-      let z : length (stepList t a (pairsFrom role row i)) ≡ 0 = ap length (step-end i l) in omega (arith, c .sum)
+      let z : length (stepList t a (pairsFrom role row i)) ≡ 0 = ap length (step-end t a up role row s i l) in omega (arith, c .sum)

@@ -13,7 +13,7 @@ use Rattle.tree.specs.StepRules.{PairsFit}
 use Rattle.tree.proofs.KeptLaws.{kept-split}
 use Rattle.kept.specs.KeptOf.{keptOf, KeptIn}
 use Rattle.runs.specs.Runs.{pairsFrom, runRows, RunEnd}
-use Rattle.lines.proofs.RunLaws.{pairs-from-run, rest-above, run-contexts}
+use Rattle.runs.proofs.RunLaws.{pairs-from-run, rest-above, run-contexts}
 use Rattle.kept.proofs.KeptOfLaws.{kept-role, kept-most}
 
 -- the pairs before place i are counted

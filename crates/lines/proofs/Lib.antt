@@ -1,4 +1,3 @@
-pub mod RunLaws
 pub mod CountedLaws
 pub mod WrittenLaws
 pub mod KeptRunLaws

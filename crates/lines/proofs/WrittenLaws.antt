@@ -16,10 +16,11 @@ use Rattle.scan.specs.OneRole.{Wrote}
 use Rattle.marks.specs.RowSet.{Blank}
 use Rattle.axis.specs.Role.{RoleAsk, RoleDone}
 use Rattle.runs.specs.Runs.{pairsFrom, runRows, RunEnd}
-use Rattle.lines.specs.StepReady.{StepReady, HasRoom, Lists}
+use Rattle.runs.specs.StepReady.{StepReady, HasRoom, Lists}
 use Rattle.scan.proofs.WroteLaws.{wrote-as, wrote-none, wrote-length, wrote-part}
-use Rattle.lines.proofs.RunLaws.{roleRows}
-use Rattle.lines.proofs.CountedLaws.{length-role, step-at, step-end, row-most, run-asks}
+use Rattle.runs.proofs.RunLaws.{roleRows}
+use Rattle.runs.proofs.StepRunLaws.{length-role, step-at, step-end, row-most}
+use Rattle.lines.proofs.CountedLaws.{run-asks}
 
 -- ── the two columns of one role's pairs ──
 pub rows-role : (r : ℕ) (cs : List ℕ) → rowsOf (withRole r cs) ≡ cs

@@ -4,8 +4,6 @@ pub mod RowSetLaws
 pub mod WordLaws
 pub mod DrainLaws
 pub mod MarkLaws
-pub mod ParentPassLaws
-pub mod RootedLaws
 pub mod AddWordLaws
 pub mod ChildWalkLaws
 pub mod WordChildLaws

@@ -1,5 +1,4 @@
--- What the axis parent means, `axis-parent`, and one context more on it: `parent-done`, and `parent-none` where it has
--- none. Assumes nothing.
+-- One context more on the axis parent: `parent-done`, and `parent-none` where it has none. Assumes nothing.
 use Prim.Native.Nat.{ℕ, suc, _+_}
 use mathlib.Core.Path.{_≡_, refl, sym, _∙_}
 use mathlib.Core.Bool.{true, _&&_, or-false}
@@ -13,15 +12,11 @@ use Rattle.tree.specs.Tree.{parent}
 use Rattle.tree.specs.Axis.{onAxis}
 use Rattle.tree.proofs.TreeLaws.{parent-below}
 use Rattle.tree.proofs.SoundLaws.{both, both-of}
-use Rattle.tree.proofs.AxisLaws.{same-test}
+use Rattle.tree.proofs.AxisLaws.{same-test, axis-parent}
 use Rattle.marks.specs.RowSet.{Added, Marked}
 use Rattle.marks.specs.Mark.{Turn}
 use Rattle.marks.proofs.MarkLaws.{joined-add}
 use Rattle.marks.proofs.ContextLaws.{turn-row, turn-take, none-take, none-joined}
-
-pub axis-parent : (level : List ℕ) (c w : ℕ) → onAxis 5 level c w ≡ eqb (parent level c) (suc w)
-unfolding onAxis
-axis-parent level c w = refl
 
 module _ {size level : List ℕ} {n : ℕ} {cs : List ℕ} {i : ℕ} {old : List ℕ} {u : ℕ}
     (t : Turn 5 size level n cs i (take i cs) old u) where

@@ -12,15 +12,6 @@ use Rattle.tree.specs.Rules.{Shape}
 use Rattle.scan.specs.OneRole.{Contexts}
 use Rattle.marks.specs.RowSet.{has, inWord, RowSet, Marked}
 
--- a column of 4,096 zeros
-pub record Zeros (up : List ℕ) : Type 0 where
-  pub long : length up ≡ 4096
-  pub zero : (w : ℕ) → w < 4096 → at up w ≡ 0
-
--- one more than the row that a path by level has above level l, 0 at level 0
-unfoldable pub aboveOf : List ℕ → ℕ → ℕ
-aboveOf path l = cond (eqb l 0) 0 (at path (l - 1) + 1)
-
 -- row w is a child of p, at or after row a and before row e
 unfoldable pub childIn : List ℕ → ℕ → ℕ → ℕ → ℕ → Bool
 childIn level p a e w = eqb (parent level w) (suc p) && (leb a w && ltb w e)

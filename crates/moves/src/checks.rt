@@ -5,8 +5,8 @@ ghost use Prim.Native.Nat.{_≤_};
 ghost use Rattle.tree.specs.Refusal.{given, next, pairCheck};
 ghost use Rattle.tree.specs.Carry.{oldCountOk, moveOk};
 use asked::pairs::check_pairs;
+use basics::both;
 use tree::Checked;
-use tree::logic::both;
 
 // Whether an edit of a table of so many rows can answer this first moved row and move. A row that is not in the table
 // and a move of more rows than a table has are refused first, so that every sum stays in the range of i64.

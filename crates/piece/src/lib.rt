@@ -8,8 +8,8 @@ ghost use Rattle.tree.specs.Search.{someBelow};
 ghost use Rattle.tree.specs.Table.{tableOf, at, shortest};
 ghost use Rattle.tree.specs.Refusal.{badPiece, insertCheck};
 ghost use Rattle.piece.specs.RowFound.{RowFound};
+use basics::either;
 use tree::Checked;
-use tree::logic::either;
 
 // Whether a piece would be refused by the check, or begins with a document, or has several trees: then row 0 and its
 // descendants are not the whole piece.
@@ -64,7 +64,7 @@ fn no_room(
 {
     either(
         4096 < total,
-        rules::rows::shortest(key, size, level, kind, name, count) < total,
+        rows::shortest(key, size, level, kind, name, count) < total,
     )
 }
 

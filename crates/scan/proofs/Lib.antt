@@ -4,3 +4,4 @@ pub mod AppendedLaws
 pub mod ScanLaws
 pub mod RangeLaws
 pub mod SideLaws
+pub mod TreeContextLaws

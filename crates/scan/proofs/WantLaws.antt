@@ -21,18 +21,18 @@ use Rattle.scan.specs.Want.{Want, wantedKind, wantOf, fits}
 
 -- ── the kind of a test code ──
 -- one of two neighbours
-nearly : (t k : ℕ) → k ≤ t → t < suc (suc k) → (t ≡ k) ⊎ (t ≡ suc k)
-nearly t k a b = ⊎-elim (λ e. inr e) (λ (l : t < suc k). inl (omega arith)) (eq-or-lt-of-le (le-of-suc-le-suc b))
+pub one-of-two : (t k : ℕ) → k ≤ t → t < suc (suc k) → (t ≡ k) ⊎ (t ≡ suc k)
+one-of-two t k a b = ⊎-elim (λ e. inr e) (λ (l : t < suc k). inl (omega arith)) (eq-or-lt-of-le (le-of-suc-le-suc b))
 
 -- codes 1 and 2 ask for an element
 pub wanted-element : (t : ℕ) → 1 ≤ t → t < 3 → wantedKind t ≡ 1
 unfolding wantedKind
-wanted-element t a b = ⊎-elim (λ e. ap wantedKind e) (λ e. ap wantedKind e) (nearly t 1 a b)
+wanted-element t a b = ⊎-elim (λ e. ap wantedKind e) (λ e. ap wantedKind e) (one-of-two t 1 a b)
 
 -- codes 5 and 6 ask for a processing instruction
 pub wanted-instruction : (t : ℕ) → 5 ≤ t → t < 7 → wantedKind t ≡ 4
 unfolding wantedKind
-wanted-instruction t a b = ⊎-elim (λ e. ap wantedKind e) (λ e. ap wantedKind e) (nearly t 5 a b)
+wanted-instruction t a b = ⊎-elim (λ e. ap wantedKind e) (λ e. ap wantedKind e) (one-of-two t 5 a b)
 
 -- code 7 asks for the document
 pub wanted-document : (t : ℕ) → 7 ≤ t → wantedKind t ≡ 0

@@ -1,12 +1,12 @@
 // Scans of a range of rows: those that fit are appended to a result column, ascending. `written` says how many results
-// the column has already.
+// the column has already. And `past_tree`, for the axes that go tree by tree.
 ghost use mathlib.Core.Bool.{true};
 ghost use Prim.Native.Nat.{_+_, _≤_};
 ghost use lib.Dec.{eqb};
 ghost use lib.ListN.{length};
 ghost use Rattle.tree.specs.Table.{at};
 ghost use Rattle.scan.specs.Want.{fits};
-ghost use Rattle.scan.specs.Range.{rowsFrom, rowsIn, Appended, ScanIn, RangeIn};
+ghost use Rattle.scan.specs.Range.{rowsFrom, rowsIn, Appended, ScanIn, RangeIn, ContextIn, PastTree};
 
 pub mod want; // want.rt: the node test as a wanted kind and a wanted name
 
@@ -132,4 +132,24 @@ pub fn emit_one(
         return written + 1;
     }
     written
+}
+
+// The first of the contexts from number i on that is not before row end, or their number. Where end is that of a tree,
+// most often no later tree has a context of the role, so the last one is asked first.
+pub fn past_tree(rows: &[usize], i: usize, end: usize) -> usize
+    requires { ⌜ ContextIn (now rows) i ⌝ }
+    ensures { λ r. ⌜ PastTree (now (rows .entry)) i end r ⌝ }
+{
+    let last = rows.len() - 1;
+    if rows[last] < end {
+        return rows.len();
+    }
+    let mut j = i;
+    while j < last {
+        if end <= rows[j] {
+            return j;
+        }
+        j += 1;
+    }
+    last
 }

@@ -20,7 +20,7 @@ use Rattle.tree.proofs.SoundLaws.{next-passed, table-passes}
 use Rattle.tree.proofs.AcceptLaws.{next-next}
 use Rattle.tree.proofs.StepAccept.{room-passes}
 use Rattle.tree.proofs.PairColumns.{length-rows}
-use Rattle.lines.specs.StepReady.{CallChecked, HasRoom, Lists}
+use Rattle.runs.specs.StepReady.{CallChecked, HasRoom, Lists}
 use Rattle.step.specs.StepLeaves.{StepLeaves}
 
 -- refusals 1 to 7

@@ -2,17 +2,17 @@
 ghost use Rattle.tree.specs.Table.{tableOf};
 ghost use Rattle.tree.specs.Outcome.{stepOutcome};
 ghost use Rattle.step.specs.StepLeaves.{StepLeaves};
-ghost use Rattle.lines.specs.StepReady.{CallChecked};
+ghost use Rattle.runs.specs.StepReady.{CallChecked};
 
 mod checks; // checks.rt: refusals 1 to 7
 mod room; // room.rt: whether the lines fit
 
-use axis::role::up_for;
+use basics::smaller;
 use lines::write_all;
+use links::up_for;
 use tree::Ask;
 use tree::Checked;
 use tree::Stepped;
-use tree::logic::smaller;
 
 // The step of a call that refusals 1 to 7 do not apply to: writes the lines to the front of the result columns and
 // tells their number and the kept count, or refuses with 8 and leaves the columns as they were.

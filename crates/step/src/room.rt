@@ -6,7 +6,7 @@ ghost use Rattle.tree.specs.Table.{tableOf};
 ghost use Rattle.tree.specs.Pairs.{pairsOf};
 ghost use Rattle.tree.specs.Step.{stepList};
 ghost use Rattle.tree.specs.Refusal.{given};
-ghost use Rattle.lines.specs.StepReady.{StepReady};
+ghost use Rattle.runs.specs.StepReady.{StepReady};
 use bounds::surely_fits;
 use lines::count_all;
 use tree::Ask;

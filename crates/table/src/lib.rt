@@ -21,10 +21,10 @@ pub fn check(
         (tableOf (now (key .entry)) (now (size .entry)) (now (level .entry))
         (now (kind .entry)) (now (name .entry)) count) ⌝ }
 {
-    if !rules::rows::count_ok(key, size, level, kind, name, count) {
+    if !rows::count_ok(key, size, level, kind, name, count) {
         return Checked::Refused(1, 0);
     }
-    let bad = rules::rows::first_bad(key, size, level, kind, name, count);
+    let bad = rows::first_bad(key, size, level, kind, name, count);
     if bad < count {
         return Checked::Refused(2, bad);
     }

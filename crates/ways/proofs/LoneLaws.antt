@@ -15,6 +15,7 @@ use lib.ListN.{length}
 use Rattle.tree.specs.Table.{at}
 use Rattle.tree.specs.Tree.{parent}
 use Rattle.tree.specs.Axis.{onAxis}
+use Rattle.tree.proofs.AxisLaws.{axis-parent}
 use Rattle.tree.proofs.SearchLaws.{gather-ext}
 use Rattle.tree.proofs.SoundLaws.{both, either}
 use Rattle.scan.specs.Want.{fits}
@@ -24,7 +25,6 @@ use Rattle.ways.specs.Path.{onPath, pathRows, upward, lonePath, PathIn, 
 use Rattle.scan.proofs.WantLaws.{fits-any}
 use Rattle.scan.proofs.RangeLaws.{Covered, cover-start, cover-skip, cover-asks, cover-range, cover-done}
 use Rattle.ways.proofs.ClimbLaws.{parent-low, ancestor-path}
-use Rattle.marks.proofs.ParentLaws.{axis-parent}
 use Rattle.ways.proofs.AncestorLaws.{axis-ancestor, axis-path}
 use Rattle.ways.proofs.PathLaws.{path-above-count, path-own-count}
 use Rattle.scan.specs.declared.want.Want.{Want}

@@ -3,9 +3,9 @@ ghost use mathlib.Core.Path.{_≡_};
 ghost use Rattle.scan.specs.Want.{fits};
 ghost use Rattle.scan.specs.OneRole.{oneRole, Wrote};
 ghost use Rattle.ways.specs.Path.{pathRows, upward, lonePath, PathIn, LoneIn};
+use basics::both;
 use scan::emit_one;
 use scan::want::Want;
-use tree::logic::both;
 
 // Whether the axis and what is wanted ask for the parent, or for all ancestors, with the context itself or without.
 fn is_upward(axis: usize, want: Want) -> bool

@@ -5,7 +5,7 @@ use mathlib.Core.Bool.{false≢true}
 use native.Mathlib.Nat.{le-trans}
 use native.Mathlib.Omega.{arith}
 use borrow.Author.Tests.{leb-true}
-use Rattle.axis.proofs.RoleAxisLaws.{siblings-climb}
+use Rattle.links.proofs.LinkAxisLaws.{siblings-climb}
 use Rattle.bounds.proofs.AxisBoundLaws.{one-most, below-most, above-most, beside-most}
 use borrow.Author.Needs.{needs}
 use Rattle.bounds.proofs.axis_fits.Statement.{statement}

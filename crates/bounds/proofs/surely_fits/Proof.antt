@@ -3,7 +3,7 @@ use Prim.Native.Nat.{_*_, _≤_}
 use native.Mathlib.Nat.{le-trans, mul-le-mul}
 use native.Mathlib.Omega.{arith}
 use borrow.Author.Tests.{leb-true}
-use Rattle.lines.proofs.CountedLaws.{pairs-fit}
+use Rattle.runs.proofs.StepRunLaws.{pairs-fit}
 use Rattle.bounds.proofs.RoleBoundLaws.{roles-most, roles-few}
 use Rattle.bounds.proofs.PairBoundLaws.{rows-few, pairs-most}
 use borrow.Author.Needs.{needs}

@@ -4,7 +4,8 @@ use native.Mathlib.Omega.{arith}
 use lib.ListN.{length, replicate, length-replicate}
 use Rattle.tree.specs.Table.{tableOf}
 use Rattle.marks.proofs.RowSetLaws.{blank-zeros}
-use Rattle.lines.proofs.CountedLaws.{Counted, pairs-fit, counted-none, counted-asks}
+use Rattle.runs.proofs.StepRunLaws.{pairs-fit}
+use Rattle.lines.proofs.CountedLaws.{Counted, counted-none, counted-asks}
 use Rattle.lines.proofs.CountedLaws.{counted-small, counted-more, counted-done}
 use borrow.Author.Needs.{needs}
 use Rattle.lines.proofs.count_all.Statement.{statement}

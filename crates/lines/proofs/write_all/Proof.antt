@@ -6,7 +6,7 @@ use lib.ListN.{length, replicate}
 use Rattle.tree.specs.Table.{tableOf}
 use Rattle.tree.proofs.SoundLaws.{sound-shape}
 use Rattle.marks.proofs.RowSetLaws.{blank-zeros}
-use Rattle.lines.proofs.CountedLaws.{pairs-fit}
+use Rattle.runs.proofs.StepRunLaws.{pairs-fit}
 use Rattle.lines.proofs.WrittenLaws.{Written, written-none, written-roles, written-rows}
 use Rattle.lines.proofs.WrittenLaws.{written-start, written-starts, written-asks, written-room}
 use Rattle.lines.proofs.WrittenLaws.{written-step, written-more, written-done}

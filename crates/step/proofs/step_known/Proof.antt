@@ -2,7 +2,7 @@
 use mathlib.Core.Path.{sym, _∙_}
 use Rattle.tree.specs.Refusal.{roomCheck}
 use Rattle.tree.proofs.SoundLaws.{sound-shape}
-use Rattle.marks.proofs.RootedLaws.{up-zeros}
+use Rattle.links.proofs.RootedLaws.{up-zeros}
 use Rattle.step.proofs.StepLeavesLaws.{leaves-full, room-fits, leaves-listed}
 use borrow.Author.Needs.{needs}
 use Rattle.step.proofs.step_known.Statement.{statement}

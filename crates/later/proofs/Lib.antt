@@ -1,0 +1,2 @@
+pub mod OneParentLaws
+pub mod GroupLaws

@@ -1,0 +1,3 @@
+pub mod ParentPassLaws
+pub mod RootedLaws
+pub mod LinkAxisLaws
