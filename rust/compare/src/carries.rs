@@ -3,6 +3,7 @@
 use crate::case::{Carry, Case};
 use crate::judge::{Difference, Judge};
 use crate::lists::{few_pairs, lend_some_room, pose_twice, some_pairs};
+use crate::options::Part;
 use crate::random::Random;
 use crate::series::{self, Series};
 
@@ -13,7 +14,7 @@ pub const CALLS: u64 = 400_000;
 /// second time with room by the first answer.
 pub fn run(judge: &mut Judge<'_>, seed: u64, calls: u64) -> Result<(), Difference> {
     let all: [Series; 2] = [("carry small", calls / 2, small), ("carry large", calls / 500, large)];
-    series::run("carry", seed, &all, |random, case| pose_twice(judge, random, case))
+    series::run(Part::Carry, seed, &all, |random, case| pose_twice(judge, random, case))
 }
 
 /// Some pairs of a table of 1 to 12 rows.

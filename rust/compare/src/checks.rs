@@ -3,6 +3,7 @@
 use crate::case::{Call, Case, Columns};
 use crate::damage::spoil;
 use crate::judge::{Difference, Judge};
+use crate::options::Part;
 use crate::random::Random;
 use crate::series::{self, Series};
 use crate::tables::{add_spare_rows, lengthen, some_key, sound, sound_trees};
@@ -19,7 +20,7 @@ pub fn run(judge: &mut Judge<'_>, seed: u64, calls: u64) -> Result<(), Differenc
         ("check large", calls / 300, large),
         ("check most trees", calls / 1_200, most_trees),
     ];
-    series::run("check and find", seed, &all, |_, case| judge.pose(case).map(drop))
+    series::run(Part::Check, seed, &all, |_, case| judge.pose(case).map(drop))
 }
 
 /// A table of 1 to 12 rows.

@@ -6,6 +6,7 @@ use crate::edits::fitting_edit;
 use crate::judge::{Difference, Judge};
 use crate::kept::Kept;
 use crate::lists::{ascending_pairs, lend_some_room};
+use crate::options::Part;
 use crate::progress::Progress;
 use crate::random::Random;
 use crate::tables::{lengthen, sound};
@@ -19,7 +20,7 @@ const SPARE: usize = 15;
 
 /// Goes round with one table after the other.
 pub fn run(judge: &mut Judge<'_>, seed: u64, circles: u64) -> Result<(), Difference> {
-    let mut progress = Progress::new("circles of edit, carry and step", circles);
+    let mut progress = Progress::new(Part::Circle, circles);
     for number in 0..circles {
         let random = &mut Random::for_call(seed, "circle", number);
         let mut kept = any(random, number);

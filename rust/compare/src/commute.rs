@@ -8,6 +8,7 @@ use crate::edits::fitting_edit;
 use crate::judge::{Difference, Judge};
 use crate::kept::Kept;
 use crate::lists::ascending_pairs;
+use crate::options::Part;
 use crate::progress::Progress;
 use crate::random::Random;
 use crate::tables::{lengthen, sound};
@@ -19,7 +20,7 @@ pub const PAIRS: u64 = 150_000;
 /// Poses pairs until there are so many within the conditions.
 pub fn run(judge: &mut Judge<'_>, seed: u64, pairs: u64) -> Result<(), Difference> {
     let mut seen = Pairs::default();
-    let mut progress = Progress::new("pairs of edits", pairs);
+    let mut progress = Progress::new(Part::Commute, pairs);
     let mut within = 0;
     for attempt in 0.. {
         let random = &mut Random::for_call(seed, "commute", attempt);
@@ -36,10 +37,10 @@ pub fn run(judge: &mut Judge<'_>, seed: u64, pairs: u64) -> Result<(), Differenc
             break;
         }
     }
-    print!("{seen}");
     if pairs >= PAIRS {
-        seen.demand().map_err(Difference)?;
+        seen.demand().map_err(|told| Difference(format!("{seen}{told}")))?;
     }
+    judge.summary = seen.to_string();
     Ok(())
 }
 

@@ -3,6 +3,7 @@
 use crate::case::{Call, Case, Columns, Insert};
 use crate::damage::spoil;
 use crate::judge::{Difference, Judge};
+use crate::options::Part;
 use crate::random::{scatter, Random};
 use crate::series::{self, Series};
 use crate::tables::{add_spare_rows, chain, lengthen, some_key, some_root, sound, sound_trees};
@@ -19,7 +20,7 @@ pub fn run(judge: &mut Judge<'_>, seed: u64, calls: u64) -> Result<(), Differenc
         ("edit large", calls / 500, large),
         ("edit most trees", calls / 1_000, most_trees),
     ];
-    series::run("edit", seed, &all, |_, case| judge.pose(case).map(drop))
+    series::run(Part::Edit, seed, &all, |_, case| judge.pose(case).map(drop))
 }
 
 fn small(random: &mut Random) -> Case {

@@ -5,6 +5,7 @@ use crate::engine::{Engine, Second};
 use crate::options::Part;
 use crate::tally::Tally;
 use std::panic::{catch_unwind, AssertUnwindSafe};
+use std::sync::OnceLock;
 
 /// An answer, or anything in a lent column, that differs: told in words, with the input.
 pub struct Difference(pub String);
@@ -13,16 +14,23 @@ pub struct Difference(pub String);
 pub struct Judge<'a> {
     pub engine: &'a dyn Engine,
     pub tally: Tally,
+    /// What the part says at its end beside its notes.
+    pub summary: String,
+    /// What ended the run, in whichever part; then no more calls are posed.
+    ended: &'a OnceLock<String>,
 }
 
 impl<'a> Judge<'a> {
-    pub fn new(engine: &'a dyn Engine, part: Part) -> Judge<'a> {
-        Judge { engine, tally: Tally::new(part) }
+    pub fn new(engine: &'a dyn Engine, part: Part, ended: &'a OnceLock<String>) -> Judge<'a> {
+        Judge { engine, tally: Tally::new(part), summary: String::new(), ended }
     }
 
     /// Both must give the same answer and leave the same in every place of every lent column.
     /// Gives that answer and the case as it is left.
     pub fn pose(&mut self, case: Case) -> Result<(Answer, Case), Difference> {
+        if self.ended.get().is_some() {
+            return Err(Difference("the run has ended in another part".to_string()));
+        }
         let mut by_engine = case.clone();
         let mut by_second = case.clone();
         let wanted = Second.answer(&mut by_second);

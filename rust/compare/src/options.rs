@@ -18,6 +18,22 @@ pub enum Part {
     Trees,
 }
 
+impl Part {
+    /// What its calls are, as the lines that tell how far it is name them.
+    pub fn title(self) -> &'static str {
+        match self {
+            Part::Farm => "stated cases",
+            Part::Check => "check and find",
+            Part::Step => "step",
+            Part::Edit => "edit",
+            Part::Carry => "carry",
+            Part::Circle => "circles of edit, carry and step",
+            Part::Commute => "pairs of edits",
+            Part::Trees => "steps on tables and on their trees",
+        }
+    }
+}
+
 /// The options of a run.
 pub struct Options {
     pub engine: String,

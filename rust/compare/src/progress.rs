@@ -1,15 +1,17 @@
 //! A line for every tenth of a long run.
 
-/// How far a series of calls has come.
+use crate::options::Part;
+
+/// How far a part has come.
 pub struct Progress {
-    series: &'static str,
+    part: Part,
     total: u64,
     done: u64,
 }
 
 impl Progress {
-    pub fn new(series: &'static str, total: u64) -> Progress {
-        Progress { series, total, done: 0 }
+    pub fn new(part: Part, total: u64) -> Progress {
+        Progress { part, total, done: 0 }
     }
 
     /// One more call is done.
@@ -18,7 +20,7 @@ impl Progress {
         let before = tenths(self.done);
         self.done += 1;
         if tenths(self.done) > before {
-            println!("{}: {}% of {}", self.series, tenths(self.done) * 10, self.total);
+            println!("{}: {}% of {}", self.part.title(), tenths(self.done) * 10, self.total);
         }
     }
 }

@@ -4,6 +4,7 @@ use crate::case::{Call, Case, Columns, Step};
 use crate::damage::spoil;
 use crate::judge::{Difference, Judge};
 use crate::lists::{few_pairs, lend_some_room, pose_twice, some_pairs};
+use crate::options::Part;
 use crate::random::Random;
 use crate::series::{self, Series};
 use crate::tables::{add_spare_rows, sound, sound_trees};
@@ -20,7 +21,7 @@ pub fn run(judge: &mut Judge<'_>, seed: u64, calls: u64) -> Result<(), Differenc
         ("step large", calls / 400, large),
         ("step most trees", calls / 4_000, most_trees),
     ];
-    series::run("step", seed, &all, |random, case| pose_twice(judge, random, case))
+    series::run(Part::Step, seed, &all, |random, case| pose_twice(judge, random, case))
 }
 
 /// A table of 1 to 12 rows with some pairs.

@@ -93,13 +93,11 @@ impl Tally {
         Ok(())
     }
 
-    /// What the part must have posed, and how often it did.
-    pub fn print_notes(&self) {
-        for (times, note) in self.notes.iter().zip(notes::all()) {
-            if note.belongs_to(self.part) {
-                println!("{times:>12}  {}", note.what);
-            }
-        }
+    /// What the part must have posed, and how often it did: a line for each.
+    pub fn notes(&self) -> String {
+        let all = self.notes.iter().zip(notes::all());
+        let own = all.filter(|(_, note)| note.belongs_to(self.part));
+        own.map(|(times, note)| format!("{times:>12}  {}\n", note.what)).collect()
     }
 
     /// The table of all calls, a column for each function.

@@ -4,6 +4,7 @@
 use crate::case::{Call, Case, Columns, Lists, Step};
 use crate::judge::{Difference, Judge};
 use crate::lists::ascending_pairs;
+use crate::options::Part;
 use crate::progress::Progress;
 use crate::random::Random;
 use crate::steps::good_question;
@@ -15,7 +16,7 @@ pub const STEPS: u64 = 40_000;
 
 /// Poses each step on the whole table, and then on each of its trees.
 pub fn run(judge: &mut Judge<'_>, seed: u64, steps: u64) -> Result<(), Difference> {
-    let mut progress = Progress::new("steps on tables and on their trees", steps);
+    let mut progress = Progress::new(Part::Trees, steps);
     for number in 0..steps {
         let random = &mut Random::for_call(seed, "trees", number);
         let rows = match number % 500 {
