@@ -9,7 +9,7 @@ ghost use Rattle.axis.specs.Role.{rangedAxis, aboveAxis, markedAxis, Rol
 use marks::mark;
 use marks::row_set;
 use scan::want::Want;
-use ways::above;
+use ways::rows_above;
 
 // Whether the rows of the axis come out as ranges.
 fn is_ranged(axis: usize) -> bool
@@ -86,8 +86,8 @@ fn marked(
 }
 
 // The rows that one role reaches, written to the front of out; answers how many. The set is empty before and after.
-// Faster are, of crate `direct`, `path::lone_rows` where `path::is_lone` holds and `earlier::rising_rows` where
-// `earlier::is_rising` does, and `later::later_siblings` on following-sibling.
+// Faster are `lone::lone_rows` for one context where `lone::is_upward` holds, `direct::earlier::rising_rows` where
+// `is_rising` does, and `later::later_siblings` on following-sibling.
 pub fn one_role(
     size: &[usize],
     level: &[usize],
@@ -111,7 +111,7 @@ pub fn one_role(
         return ranged(size, level, kind, name, count, up, rows, axis, want, out);
     }
     if is_above(axis) {
-        return above::rows_above(
+        return rows_above(
             size,
             level,
             kind,

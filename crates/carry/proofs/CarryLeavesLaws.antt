@@ -24,9 +24,9 @@ use Rattle.tree.proofs.AcceptLaws.{next-next}
 use Rattle.tree.proofs.RoleLaws.{pair-passes}
 use Rattle.carry.specs.CarryLeaves.{CarryLeaves}
 use Rattle.moves.specs.Moves.{MovesRow}
-use Rattle.carry.specs.Left.{moveOf, leftOf, Ready, Carries}
+use Rattle.pairs_left.specs.Left.{moveOf, leftOf, Ready, Carries}
 use Rattle.tree.proofs.RowMoveLaws.{move-ok}
-use Rattle.carry.proofs.StayLaws.{left-is}
+use Rattle.pairs_left.proofs.StayLaws.{left-is}
 
 -- refusals 1, 3 to 5 and 17
 abbrev pub callChecks : List ℕ → List ℕ → ℕ → ℕ → ℤ → Checked

@@ -1,5 +1,3 @@
-pub mod StayLaws
-pub mod WriteLaws
 pub mod CarryLeavesLaws
 pub mod EditMoveLaws
 pub mod GrantLaws

@@ -1,3 +1,2 @@
 pub mod CarryLeaves
-pub mod Left
 pub mod Refound

@@ -2,13 +2,10 @@
 // written before it is known that all of it fits.
 ghost use Rattle.tree.specs.Carry.{carryOutcome};
 ghost use Rattle.carry.specs.CarryLeaves.{CarryLeaves};
-
-mod writing; // writing.rt: all pairs
-
-use crate::writing::Move;
 use basics::smaller;
 use moves::checks;
 use moves::moved::moved_to;
+use pairs_left::Move;
 use tree::Carried;
 use tree::Checked;
 
@@ -32,7 +29,7 @@ pub fn carry(
         Checked::Refused(number, place) => Carried::Refused(number, place),
         Checked::Passed => {
             let to = moved_to(old_count, first, moved, first);
-            let left = writing::count_left(row, to, first);
+            let left = pairs_left::count_left(row, to, first);
             if smaller(out_role.len(), out_row.len()) < left {
                 return Carried::Refused(8, left);
             }
@@ -42,7 +39,7 @@ pub fn carry(
                 moved,
                 to,
             };
-            writing::write(role, row, edit, left, out_role, out_row);
+            pairs_left::write(role, row, edit, left, out_role, out_row);
             Carried::Written(left)
         }
     }

@@ -20,7 +20,7 @@ use Rattle.tree.specs.declared.Found.the-variants.{At, Refused as NotFound}
 use Rattle.tree.specs.declared.Done.{Done}
 use Rattle.tree.specs.declared.Edited.{Edited}
 use Rattle.tree.proofs.SoundLaws.{table-passes}
-use Rattle.piece.specs.RowFound.{RowFound}
+use Rattle.table.specs.RowFound.{RowFound}
 use Rattle.edit_at.specs.AtRow.{insertAt, deleteAt, renameAt}
 use Rattle.edit_at.specs.EditLeaves.{EditLeaves}
 use Rattle.edit_at.proofs.OutcomeLaws.{leaves, own-refused}

@@ -8,7 +8,7 @@ use Rattle.tree.specs.Edit.{inserted, deleted, renamed, insertDone, deleteDone,
 use Rattle.tree.specs.Refusal.{insertCheck, deleteCheck, renameCheck}
 use Rattle.tree.specs.Outcome.{EditOutcome, editIf}
 use Rattle.tree.specs.declared.Checked.the-variants.{Passed}
-use Rattle.piece.specs.RowFound.{RowFound}
+use Rattle.table.specs.RowFound.{RowFound}
 
 -- row r was found, and the piece p fits under it
 pub record PieceChecked (t : Table) (r : ℕ) (p : Table) : Type 0 where

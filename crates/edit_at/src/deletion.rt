@@ -1,12 +1,10 @@
 // A deletion at a row: document 01, "Finding and editing by key"; refusal 15.
 ghost use Rattle.tree.specs.Table.{tableOf};
 ghost use Rattle.edit_at.specs.EditLeaves.{EditLeaves};
-ghost use Rattle.piece.specs.RowFound.{RowFound};
+ghost use Rattle.table.specs.RowFound.{RowFound};
 ghost use Rattle.edit_at.specs.AtRow.{deleteAt};
 use shift::done;
-use shift::mover::clear_column;
 use shift::mover::close_column;
-use shift::sizes;
 use tree::Edited;
 
 // The row and its descendants go, or refusal 15 where they are the whole table: then the row is the only root. Later
@@ -31,17 +29,11 @@ pub fn delete_at(
         return Edited::Refused(15, 0);
     }
     let gap = row + by;
-    let left = count - by;
     sizes::lower(size, row, by);
     close_column(key, count, row, by);
     close_column(size, count, row, by);
     close_column(level, count, row, by);
     close_column(kind, count, row, by);
     close_column(name, count, row, by);
-    clear_column(key, left, count);
-    clear_column(size, left, count);
-    clear_column(level, left, count);
-    clear_column(kind, left, count);
-    clear_column(name, left, count);
     Edited::Made(done::after_deletion(count, gap, by))
 }

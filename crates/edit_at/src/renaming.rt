@@ -5,7 +5,7 @@ ghost use lib.Dec.{eqb};
 ghost use Rattle.tree.specs.Table.{tableOf};
 ghost use Rattle.tree.specs.Sound.{hasName};
 ghost use Rattle.edit_at.specs.EditLeaves.{EditLeaves};
-ghost use Rattle.piece.specs.RowFound.{RowFound};
+ghost use Rattle.table.specs.RowFound.{RowFound};
 ghost use Rattle.edit_at.specs.AtRow.{renameAt};
 use basics::either;
 use tree::Done;

@@ -17,13 +17,13 @@ use Rattle.tree.specs.Kept.{drops}
 use Rattle.tree.proofs.TreeLaws.{less?}
 use Rattle.tree.proofs.SoundLaws.{both-of}
 use Rattle.tree.proofs.RootLaws.{is-root, same-tree}
-use Rattle.kept.specs.KeptOf.{keptOf, KeptIn}
+use Rattle.kept_rows.specs.KeptOf.{keptOf, KeptIn}
 use Rattle.scan.specs.OneRole.{Roots}
 use Rattle.links.specs.Links.{sideAxis}
 use Rattle.links.proofs.LinkAxisLaws.{side-of}
 use Rattle.scan.proofs.RangeLaws.{contexts-rise}
-use Rattle.kept.proofs.KeptOfLaws.{keptRow, keptBelow, kept-rows, row-none, row-dropped, row-kept}
-use Rattle.kept.proofs.KeptOfLaws.{below-skip, below-next, below-none}
+use Rattle.kept_rows.proofs.KeptOfLaws.{keptRow, keptBelow, kept-rows, row-none, row-dropped, row-kept}
+use Rattle.kept_rows.proofs.KeptOfLaws.{below-skip, below-next, below-none}
 
 -- axes 8 and 9
 pub side-range : (a : ℕ) → 8 ≤ a → a < 10 → sideAxis a ≡ true

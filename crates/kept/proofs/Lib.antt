@@ -1,4 +1,1 @@
-pub mod KeptOfLaws
-pub mod KeptOuterLaws
-pub mod KeptPassLaws
 pub mod KeptTreeLaws

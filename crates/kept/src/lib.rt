@@ -1,72 +1,14 @@
 // The kept count of the contexts of one role, on every axis. The contexts do not fall: equal ones stand side by side.
 ghost use mathlib.Core.Path.{_≡_};
-ghost use mathlib.Core.Bool.{cond, true};
+ghost use mathlib.Core.Bool.{true};
 ghost use Prim.Native.Nat.{_<_};
-ghost use lib.Dec.{leb};
 ghost use lib.ListN.{length};
 ghost use Rattle.scan.specs.OneRole.{Roots};
 ghost use Rattle.links.specs.Links.{sideAxis};
-ghost use Rattle.kept.specs.KeptOf.{keptOf, KeptIn};
-use basics::greater;
-
-// 1 where row c does not lie before row pos, 0 where it does.
-fn past(pos: usize, c: usize) -> usize
-    ensures { λ r. ⌜ r ≡ cond (leb pos c) 1 0 ⌝ }
-{
-    if pos <= c { 1 } else { 0 }
-}
-
-// Axes 3 and 4: how many distinct contexts are descendants of no other. The contexts passed and their descendants lie
-// before `pos`; the next one is the same as one of them, or a descendant of one, exactly if it lies before `pos` too.
-fn kept_outermost(size: &[usize], level: &[usize], count: usize, rows: &[usize]) -> usize
-    requires { ⌜ KeptIn (now size) (now level) count (now rows) ⌝ }
-    ensures { λ r. ⌜ r ≡ keptOf 3 (now (level .entry)) (now (rows .entry)) ⌝ }
-{
-    let mut kept = 0;
-    let mut pos = 0;
-    let mut i = 0;
-    while i < rows.len() {
-        let c = rows[i];
-        kept += past(pos, c);
-        pos = greater(pos, c + size[c] + 1);
-        i += 1;
-    }
-    kept
-}
-
-// Axes 6 and 7: how many distinct contexts are ancestors of no other, of one context or more: the last one, and each
-// whose next comes after its descendants.
-fn kept_innermost(size: &[usize], level: &[usize], count: usize, rows: &[usize]) -> usize
-    requires { ⌜ KeptIn (now size) (now level) count (now rows) × (0 < length (now rows)) ⌝ }
-    ensures { λ r. ⌜ r ≡ keptOf 6 (now (level .entry)) (now (rows .entry)) ⌝ }
-{
-    let mut kept = 1;
-    let mut i = 1;
-    while i < rows.len() {
-        let c = rows[i - 1];
-        if c + size[c] < rows[i] {
-            kept += 1;
-        }
-        i += 1;
-    }
-    kept
-}
-
-// The other axes: how many distinct contexts there are, of one or more: the last one, and each whose next is another.
-fn kept_distinct(size: &[usize], level: &[usize], count: usize, rows: &[usize]) -> usize
-    requires { ⌜ KeptIn (now size) (now level) count (now rows) × (0 < length (now rows)) ⌝ }
-    ensures { λ r. ⌜ r ≡ keptOf 1 (now (level .entry)) (now (rows .entry)) ⌝ }
-{
-    let mut kept = 1;
-    let mut i = 1;
-    while i < rows.len() {
-        if rows[i - 1] < rows[i] {
-            kept += 1;
-        }
-        i += 1;
-    }
-    kept
-}
+ghost use Rattle.kept_rows.specs.KeptOf.{keptOf, KeptIn};
+use kept_rows::kept_distinct;
+use kept_rows::kept_innermost;
+use kept_rows::kept_outermost;
 
 // Axes 8 and 9: in how many trees there are contexts, of one or more: that of the first one, and each whose root is not
 // that of the context before. Most often there is one, so first and last are asked before the others.

@@ -1,28 +1,16 @@
 -- Counting the lines role by role: `counted-none` at the start, `counted-more` for a run more, `counted-done` at
 -- the end; `run-asks`: what the step of one role asks for at a run. Assumes nothing.
-use mathlib.Core.Path.{_≡_, refl, ap, _∙_}
-use mathlib.Core.Bool.{Bool, true, false}
-use mathlib.Core.List.{List, [], _∷_, _++_}
-use Prim.Native.Nat.{ℕ, zero, suc, _+_, _*_, _≤_}
-use native.Mathlib.Nat.{le-refl, le-trans}
+use mathlib.Core.Path.{_≡_, ap, _∙_}
+use mathlib.Core.List.{List}
+use Prim.Native.Nat.{ℕ, _+_, _*_, _≤_}
 use native.Mathlib.Omega.{arith}
-use borrow.Author.Tests.{not-false}
-use lib.ListN.{length, drop, length-append, drop-of-length-le}
-use Rattle.tree.specs.Search.{gather, only}
+use lib.ListN.{length, length-append}
 use Rattle.tree.specs.Table.{Table, at}
-use Rattle.tree.specs.Axis.{axisOk}
-use Rattle.tree.specs.Test.{testOk}
-use Rattle.tree.specs.Pairs.{pairsOf, withRole, distinct}
+use Rattle.tree.specs.Pairs.{pairsOf, withRole}
 use Rattle.tree.specs.declared.Ask.{Ask}
-use Rattle.tree.specs.Step.{stepList, linesOf}
-use Rattle.tree.specs.StepRules.{PairsFit}
-use Rattle.tree.specs.Refusal.{askCheck}
-use Rattle.tree.specs.declared.Checked.the-variants.{Passed}
-use Rattle.tree.proofs.SearchLaws.{gather-zero, gather-length}
-use Rattle.tree.proofs.SoundLaws.{sound-shape, next-passed, given-passed}
-use Rattle.tree.proofs.RoleLaws.{pair-passes}
+use Rattle.tree.specs.Step.{stepList}
+use Rattle.tree.proofs.SoundLaws.{sound-shape}
 use Rattle.scan.specs.Want.{wantOf}
-use Rattle.scan.specs.OneRole.{oneRole}
 use Rattle.marks.specs.RowSet.{Blank}
 use Rattle.axis.specs.Role.{RoleAsk, RoleDone}
 use Rattle.runs.specs.Runs.{pairsFrom, runRows, RunEnd}
@@ -91,7 +79,8 @@ module _ (t : Table) (a : Ask) (up role row : List ℕ) (s : StepReady t a up ro
         record {
           within = e .within;
           blank = d .blank;
-          wide = wrote-length (d .wrote) (let w = c .wide in omega (arith, row-most t a up role row s i j)) ∙ c .wide;
+          wide = wrote-length (d .wrote) (let w = c .wide in omega (arith, row-most t a up role row s i j))
+              ∙ c .wide;
           small = omega (arith, c .small, counted-small);
           sum = omega (arith, c .sum);
         }

@@ -5,21 +5,25 @@ ghost use Rattle.tree.specs.Table.{tableOf};
 ghost use Rattle.tree.specs.Pairs.{pairsOf};
 ghost use Rattle.tree.specs.Kept.{keptCount};
 ghost use Rattle.tree.specs.Step.{stepList};
+ghost use Rattle.lone.specs.Lone.{upward as upwardOf};
 ghost use Rattle.axis.specs.Role.{RoleAsk, RoleDone};
 ghost use Rattle.runs.specs.StepReady.{StepReady, HasRoom, Lists};
 use axis::one_role;
+use basics::both;
 use direct::earlier;
 use kept::kept_of;
 use later::later_siblings;
+use lone::is_upward;
+use lone::lone_rows;
 use runs::fill;
 use runs::run_end;
 use scan::want::Want;
 use scan::want::want_of;
 use tree::Ask;
-use ways::path;
 
 // The rows of one role, for the count: the way up of a lone context, the siblings by functions of their own, and all
-// else by `one_role`. The lone context is chosen first, so that it does not pay for what `one_role` needs.
+// else by `one_role`. The lone context is chosen first, so that it does not pay for what `one_role` needs; whether its
+// way is `upward` is the same for all roles.
 //
 // `written_role` has the same text, for the other loop. Each is compiled into its loop. One function for both loops
 // would stand between the loop and what writes the rows: every role would pay for a second call and for the registers
@@ -34,17 +38,19 @@ fn counted_role(
     rows: &[usize],
     axis: usize,
     want: Want,
+    upward: bool,
     words: &mut [u64; 64],
     out: &mut [usize],
 ) -> usize
+    requires { ⌜ upward ≡ upwardOf axis want ⌝ }
     requires { ⌜ RoleAsk axis (now size) (now level) (now kind) (now name) count (now up)
         (now rows) want (now words) (now out) ⌝ }
     ensures { λ r. ⌜ RoleDone axis (now (level .entry)) (now (kind .entry)) (now (name .entry)) count
         (now (rows .entry)) want (now (words .exit))
         (now (out .entry)) r (now (out .exit)) ⌝ }
 {
-    if path::is_lone(rows.len(), axis, want) {
-        return path::lone_rows(size, level, kind, name, count, up, rows, axis, want, out);
+    if both(rows.len() == 1, upward) {
+        return lone_rows(size, level, kind, name, count, up, rows, axis, want, out);
     }
     if axis == 10 {
         return later_siblings(size, level, kind, name, count, up, rows, want, words, out);
@@ -87,6 +93,7 @@ pub fn count_all(
         ask (pairsOf (now (role .entry)) (now (row .entry)))) ⌝ }
 {
     let want = want_of(ask);
+    let upward = is_upward(ask.axis, want);
     let mut words = [0u64; 64];
     let mut scratch = [0usize; 4096];
     let mut total = 0;
@@ -103,6 +110,7 @@ pub fn count_all(
             &row[i..j],
             ask.axis,
             want,
+            upward,
             &mut words,
             &mut scratch,
         );
@@ -129,17 +137,19 @@ fn written_role(
     rows: &[usize],
     axis: usize,
     want: Want,
+    upward: bool,
     words: &mut [u64; 64],
     out: &mut [usize],
 ) -> usize
+    requires { ⌜ upward ≡ upwardOf axis want ⌝ }
     requires { ⌜ RoleAsk axis (now size) (now level) (now kind) (now name) count (now up)
         (now rows) want (now words) (now out) ⌝ }
     ensures { λ r. ⌜ RoleDone axis (now (level .entry)) (now (kind .entry)) (now (name .entry)) count
         (now (rows .entry)) want (now (words .exit))
         (now (out .entry)) r (now (out .exit)) ⌝ }
 {
-    if path::is_lone(rows.len(), axis, want) {
-        return path::lone_rows(size, level, kind, name, count, up, rows, axis, want, out);
+    if both(rows.len() == 1, upward) {
+        return lone_rows(size, level, kind, name, count, up, rows, axis, want, out);
     }
     if axis == 10 {
         return later_siblings(size, level, kind, name, count, up, rows, want, words, out);
@@ -190,6 +200,7 @@ pub fn write_all(
         (pairsOf (now (role .entry)) (now (row .entry))) ⌝ }
 {
     let want = want_of(ask);
+    let upward = is_upward(ask.axis, want);
     let mut words = [0u64; 64];
     let mut kept = 0;
     let mut m = 0;
@@ -207,6 +218,7 @@ pub fn write_all(
             &row[i..j],
             ask.axis,
             want,
+            upward,
             &mut words,
             &mut out_row[m..],
         );

@@ -1,5 +1,5 @@
-// The column of links that an axis follows, found once for a call: the parents of all rows, or the roots of their trees.
-// A parent is one more than its row, 0 for none.
+// The column of links that an axis follows, found once for a call: the parents of all rows, or the roots of their
+// trees. A parent is one more than its row, 0 for none.
 ghost use mathlib.Core.Path.{_≡_};
 ghost use mathlib.Core.Bool.{cond};
 ghost use Prim.Native.Nat.{_-_, _<_};

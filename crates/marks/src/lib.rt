@@ -1,6 +1,5 @@
-// The axes whose rows do not come out in order: a set of rows, into which the rows of one role are put. Then the passes
-// over all rows that leave what the axes follow.
+// The axes whose rows do not come out in order: a set of rows, into which the rows of one role are put.
 
 mod walk; // walk.rt: from sibling to sibling
 pub mod row_set; // row_set.rt: a set of rows
-pub mod mark; // mark.rt: the axes whose rows are put into a set; the parents and roots of all rows
+pub mod mark; // mark.rt: the axes whose rows are put into a set

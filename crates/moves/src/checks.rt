@@ -4,8 +4,8 @@ ghost use mathlib.Core.Bool.{not};
 ghost use Prim.Native.Nat.{_≤_};
 ghost use Rattle.tree.specs.Refusal.{given, next, pairCheck};
 ghost use Rattle.tree.specs.Carry.{oldCountOk, moveOk};
-use asked::pairs::check_pairs;
 use basics::both;
+use pairs::check_pairs;
 use tree::Checked;
 
 // Whether an edit of a table of so many rows can answer this first moved row and move. A row that is not in the table

@@ -1,9 +1,9 @@
--- The checks of an insertion, in their order. Of one check: `given-is`; of two: `next-refused`, `next-on`. Of a
--- search: `some-at`, `some-none`. Of the piece alone: `piece-refused`, `piece-passed`, `piece-rows`, `piece-sound`.
--- Of the piece under the row, a law for each answer: `refused-bad`, `refused-parent`, `refused-deep`,
--- `refused-taken`, `refused-full`, `passed-all`. Assumes nothing.
+-- The checks of an insertion, in their order. Of a search: `some-at`, `some-none`. Of the piece alone:
+-- `piece-refused`, `piece-passed`, `piece-rows`, `piece-sound`. Of the piece under the row, a law for each answer:
+-- `refused-bad`, `refused-parent`, `refused-deep`, `refused-taken`, `refused-full`, `passed-all`. Assumes nothing.
 use mathlib.Core.Path.{_≡_, refl, sym, ap, ap₂, _∙_}
-use mathlib.Core.Bool.{Bool, true, false, cond, not, _||_}
+use mathlib.Core.Logic.{inl}
+use mathlib.Core.Bool.{Bool, true, false, not, _||_}
 use Prim.Native.Nat.{ℕ, _+_, _<_, _≤_}
 use native.Mathlib.Omega.{arith}
 use borrow.Author.Tests.{lt-ltb, le-ltb, lt-leb, le-leb}
@@ -19,26 +19,21 @@ use Rattle.tree.specs.Outcome.{checkOutcome}
 use Rattle.tree.specs.declared.Checked.{Checked}
 use Rattle.tree.specs.declared.Checked.the-variants.{Passed, Refused}
 use Rattle.tree.proofs.SearchLaws.{least-hit-le}
-use Rattle.tree.proofs.SoundLaws.{table-passes, next-passed, given-passed, given-not, sound-shape}
+use Rattle.tree.proofs.SoundLaws.{table-passes, next-passed, next-first, given-passed, given-not, sound-shape}
+use Rattle.tree.proofs.FindLaws.{given-refused}
 use Rattle.tree.proofs.RootLaws.{tree-fits}
 use Rattle.tree.proofs.LastRootLaws.{several-is}
 use Rattle.tree.proofs.AcceptLaws.{neither, neither-of, none-below}
 
 -- ── the checks in their order ──
--- a single refusal, given or not
-pub given-is : {b : Bool} (m p : ℕ) → b ≡ true → given b m p ≡ Refused m p
-unfolding given
-given-is m p e = ap (λ (x : Bool). cond x (Refused m p) Passed) e
-
 -- the first check refuses
-pub next-refused : {c : Checked} (d : Checked) {m p : ℕ} → c ≡ Refused m p → next c d ≡ Refused m p
-unfolding next
-next-refused d e = ap (λ (c : Checked). next c d) e
+stops : {b : Bool} (d : Checked) (m p : ℕ) → b ≡ true → next (given b m p) d ≡ Refused m p
+stops d m p e = next-first _ d m p .1 (inl (given-refused _ m p m p .1 (e, refl, refl)))
 
 -- the first check passes
-pub next-on : {c : Checked} (d : Checked) → c ≡ Passed → next c d ≡ d
+goes-on : {b : Bool} (d : Checked) (m p : ℕ) → b ≡ false → next (given b m p) d ≡ d
 unfolding next
-next-on d e = ap (λ (c : Checked). next c d) e
+goes-on d m p e = ap (λ (c : Checked). next c d) (given-not m p e)
 
 -- ── whether one passes ──
 pub some-at : (f : ℕ → Bool) (n i : ℕ) → i < n → f i ≡ true → true ≡ someBelow f n
@@ -115,39 +110,39 @@ module _ (t : Table) (r : ℕ) (p : Table) where
 
   pub refused-bad : badPiece p ≡ true → insertCheck t r p ≡ Refused 10 0
   unfolding insertCheck
-  refused-bad e = next-refused _ (given-is 10 0 e)
+  refused-bad e = stops _ 10 0 e
 
   module _ (good : badPiece p ≡ false) where
     after-piece : insertCheck t r p ≡ kind-check
     unfolding insertCheck
-    after-piece = next-on _ (given-not 10 0 good)
+    after-piece = goes-on _ 10 0 good
 
     pub refused-parent : 1 < at (t .kind) r → insertCheck t r p ≡ Refused 11 r
-    refused-parent l = after-piece ∙ next-refused _ (given-is 11 r (ap not (lt-leb _ _ l)))
+    refused-parent l = after-piece ∙ stops _ 11 r (ap not (lt-leb _ _ l))
 
     module _ (may : at (t .kind) r ≤ 1) where
       after-parent : insertCheck t r p ≡ deep-check
-      after-parent = after-piece ∙ next-on _ (given-not 11 r (ap not (le-leb _ _ may)))
+      after-parent = after-piece ∙ goes-on _ 11 r (ap not (le-leb _ _ may))
 
       pub refused-deep : someBelow deep (p .count) ≡ true → insertCheck t r p ≡ Refused 12 0
-      refused-deep e = after-parent ∙ next-refused _ (given-is 12 0 e)
+      refused-deep e = after-parent ∙ stops _ 12 0 e
 
       module _ (low : someBelow deep (p .count) ≡ false) where
         after-levels : insertCheck t r p ≡ key-check
-        after-levels = after-parent ∙ next-on _ (given-not 12 0 low)
+        after-levels = after-parent ∙ goes-on _ 12 0 low
 
         pub refused-taken : least taken (p .count) < p .count → insertCheck t r p ≡ Refused 13 (least taken (p .count))
         unfolding givenAt
-        refused-taken l = after-levels ∙ next-refused _ (given-is 13 (least taken (p .count)) (lt-ltb _ _ l))
+        refused-taken l = after-levels ∙ stops _ 13 (least taken (p .count)) (lt-ltb _ _ l)
 
         module _ (fresh : p .count ≤ least taken (p .count)) where
           after-keys : insertCheck t r p ≡ room-check
           unfolding givenAt
-          after-keys = after-levels ∙ next-on _ (given-not 13 (least taken (p .count)) (le-ltb _ _ fresh))
+          after-keys = after-levels ∙ goes-on _ 13 (least taken (p .count)) (le-ltb _ _ fresh)
 
           pub refused-full : (ltb 4096 (t .count + p .count) || ltb (shortest t) (t .count + p .count)) ≡ true
               → insertCheck t r p ≡ Refused 14 0
-          refused-full e = after-keys ∙ given-is 14 0 e
+          refused-full e = after-keys ∙ given-refused _ 14 0 14 0 .1 (e, refl, refl)
 
           pub passed-all : (ltb 4096 (t .count + p .count) || ltb (shortest t) (t .count + p .count)) ≡ false
               → insertCheck t r p ≡ Passed

@@ -7,7 +7,7 @@ ghost use lib.ListN.{length};
 ghost use Rattle.tree.specs.Search.{someBelow};
 ghost use Rattle.tree.specs.Table.{tableOf, at, shortest};
 ghost use Rattle.tree.specs.Refusal.{badPiece, insertCheck};
-ghost use Rattle.piece.specs.RowFound.{RowFound};
+ghost use Rattle.table.specs.RowFound.{RowFound};
 use basics::either;
 use tree::Checked;
 

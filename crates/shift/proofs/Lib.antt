@@ -1,3 +1,2 @@
 pub mod MoverLaws
 pub mod SignedMoveLaws
-pub mod SizePassLaws

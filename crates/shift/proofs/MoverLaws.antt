@@ -1,7 +1,7 @@
 -- What the movers' loops keep, over lists. Shifting down: `down-start`, `down-turn`, `down-end`. Writing from the
 -- front on: `put-start`, `put-turn`, `put-end`, with the source rows raised, rows further on, or zeros:
 -- `raised-turn`, `up-turn`, `clear-turn`, `clear-end`. What they make of a part and of a column: `open-part`,
--- `open-column`, `close-column`, `clear-column`, `pulled-cleared`. Assumes nothing.
+-- `open-column`, `pull-column`, `clear-column`, `pulled-cleared`. Assumes nothing.
 use mathlib.Core.Path.{_≡_, refl, sym, ap, ap₂, _∙_, subst}
 use mathlib.Core.List.{List, [], _∷_, _++_, map, append-assoc}
 use Prim.Native.Nat.{ℕ, zero, suc, _+_, _-_, _≤_, _<_}
@@ -164,11 +164,11 @@ open-column gap n by piece xs end h e =
     (drop-drop (n - gap + by) gap xs ∙ ap (λ (m : ℕ). drop m xs) same))
 
 -- a column whose part from row r on was shifted up
-pub close-column : (r n by : ℕ) (xs end : List ℕ) → r + by ≤ n
+pub pull-column : (r n by : ℕ) (xs end : List ℕ) → r + by ≤ n
     → end ≡ take (n - r - by) (drop by (midOf r (length xs - r) xs)) ++ drop (n - r - by) (midOf r (length xs - r) xs)
     → putMid r (length xs - r) xs end ≡ pulled r n by xs
 unfolding pulled
-close-column r n by xs end h e =
+pull-column r n by xs end h e =
     let rest : n - r - by ≡ n - (r + by) = omega arith in
     let last : r + (n - r - by) ≡ n - by = omega arith in
     tail-put r xs end ∙ ap (λ (z : List ℕ). take r xs ++ z)

@@ -5,7 +5,7 @@ ghost use mathlib.Core.List.{_++_, map};
 ghost use Prim.Native.Nat.{ℕ, _+_, _-_, _<_, _≤_};
 ghost use lib.ListN.{length, take, drop, replicate};
 ghost use Rattle.tree.specs.Table.{at};
-ghost use Rattle.tree.specs.Edit.{opened};
+ghost use Rattle.tree.specs.Edit.{opened, closed};
 ghost use Rattle.shift.specs.Part.{shifted, openedPart, pulled, cleared};
 
 // Moves the first n rows of a part by places towards its end, from the last on.
@@ -130,7 +130,7 @@ pub fn open_column_raised(
 
 // Takes by rows out of a column of n rows in use, from a row on: later rows close up, the freed rows stay as they
 // were.
-pub fn close_column(column: &mut [usize], n: usize, row: usize, by: usize)
+fn pull_column(column: &mut [usize], n: usize, row: usize, by: usize)
     requires { ⌜ row + by ≤ n ⌝ }
     requires { ⌜ n ≤ length (now column) ⌝ }
     ensures { λ _. ⌜ now (column .exit) ≡ pulled row n by (now (column .entry)) ⌝ }
@@ -140,11 +140,22 @@ pub fn close_column(column: &mut [usize], n: usize, row: usize, by: usize)
 }
 
 // Fills the rows of a column from one row up to another with zeros.
-pub fn clear_column(column: &mut [usize], from: usize, to: usize)
+fn clear_column(column: &mut [usize], from: usize, to: usize)
     requires { ⌜ from ≤ to ⌝ }
     requires { ⌜ to ≤ length (now column) ⌝ }
     ensures { λ _. ⌜ now (column .exit) ≡ cleared from to (now (column .entry)) ⌝ }
 {
     let n = to - from;
     clear(&mut column[from..], n);
+}
+
+// Takes by rows out of a column of n rows in use, from a row on: later rows close up, the freed rows are zero.
+pub fn close_column(column: &mut [usize], n: usize, row: usize, by: usize)
+    requires { ⌜ row + by ≤ n ⌝ }
+    requires { ⌜ n ≤ length (now column) ⌝ }
+    ensures { λ _. ⌜ now (column .exit) ≡ closed row n by (now (column .entry)) ⌝ }
+{
+    pull_column(column, n, row, by);
+    let left = n - by;
+    clear_column(column, left, n);
 }

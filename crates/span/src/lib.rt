@@ -1,5 +1,4 @@
 // The axes self, descendant and descendant-or-self: their rows come out as ranges, ascending.
-ghost use mathlib.Core.Path.{_≡_};
 ghost use Prim.Native.Nat.{_-_, _≤_};
 ghost use Rattle.scan.specs.Want.{fits};
 ghost use Rattle.scan.specs.OneRole.{oneRole, RoleIn, Wrote};

@@ -2,8 +2,8 @@
 ghost use mathlib.Core.Path.{_≡_};
 ghost use Rattle.tree.specs.Table.{tableOf};
 ghost use Rattle.tree.specs.Refusal.{next, tableCheck, pairCheck, askCheck};
-use asked::ask::check_ask;
-use asked::pairs::check_pairs;
+use asked::check_ask;
+use pairs::check_pairs;
 use tree::Ask;
 use tree::Checked;
 

@@ -26,8 +26,7 @@ use Rattle.scan.specs.Range.{Appended}
 use Rattle.scan.proofs.AppendedLaws.{appended-as}
 use Rattle.scan.proofs.RangeLaws.{contexts-rise, any-hit, any-miss, Covered, cover-start, cover-done}
 use Rattle.scan.proofs.RangeLaws.{part-room, cover-part}
-use Rattle.ways.specs.Path.{onPath}
-use Rattle.ways.specs.Above.{wayUp, wayStart, WayIn}
+use Rattle.ways.specs.Above.{onPath, wayUp, wayStart, WayIn}
 use Rattle.ways.proofs.ClimbLaws.{parent-low, ancestor-path, way-rows}
 use Rattle.ways.proofs.AncestorLaws.{axis-ancestor, axis-path}
 use Rattle.scan.specs.declared.want.Want.{Want}

@@ -4,7 +4,7 @@ use mathlib.Core.Path.{_≡_, refl}
 use mathlib.Core.List.{List}
 use Rattle.tree.specs.Tree.{ancestor}
 use Rattle.tree.specs.Axis.{onAxis}
-use Rattle.ways.specs.Path.{onPath}
+use Rattle.ways.specs.Above.{onPath}
 
 module _ (level : List ℕ) (c w : ℕ) where
   pub axis-ancestor : onAxis 6 level c w ≡ ancestor level w c

@@ -25,8 +25,7 @@ use Rattle.scan.specs.Want.{fits}
 use Rattle.scan.specs.Range.{rowsIn, Appended}
 use Rattle.scan.proofs.ScanLaws.{rows-same, rows-ended, rows-last, rows-empty}
 use Rattle.scan.proofs.AppendedLaws.{appended-as, appended-none, appended-more, appended-length}
-use Rattle.ways.specs.Path.{onPath}
-use Rattle.ways.specs.Above.{wayUp, WayIn}
+use Rattle.ways.specs.Above.{onPath, wayUp, WayIn}
 use Rattle.scan.specs.declared.want.Want.{Want}
 
 -- a parent is an earlier row

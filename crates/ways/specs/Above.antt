@@ -1,17 +1,21 @@
 -- The way up from a context, as far as it is new: which rows it has, and what the functions that write it ask for.
 -- Assumes nothing.
-use Prim.Native.Nat.{ℕ, _+_, _≤_}
-use mathlib.Core.Bool.{Bool, cond, _&&_}
+use Prim.Native.Nat.{ℕ, zero, suc, _+_, _≤_}
+use mathlib.Core.Bool.{Bool, false, cond, _&&_, _||_}
 use mathlib.Core.List.{List}
 use lib.Dec.{eqb}
 use lib.ListN.{length}
-use Rattle.tree.specs.Tree.{parent}
+use Rattle.tree.specs.Tree.{parent, ancestor}
 use Rattle.tree.specs.Rules.{Shape}
 use Rattle.scan.specs.Want.{fits}
 use Rattle.scan.specs.OneRole.{Parents}
 use Rattle.scan.specs.Range.{rowsIn}
-use Rattle.ways.specs.Path.{onPath}
 use Rattle.scan.specs.declared.want.Want.{Want}
+
+-- row w is the row that a link names, or one of its ancestors; a link is one more than a row, or 0 for none
+unfoldable pub onPath : List ℕ → ℕ → ℕ → Bool
+onPath level zero w = false
+onPath level (suc v) w = eqb w v || ancestor level w v
 
 -- the rows from floor on that a link names or that are its ancestors, and that pass, ascending
 unfoldable pub wayUp : List ℕ → ℕ → ℕ → (ℕ → Bool) → List ℕ

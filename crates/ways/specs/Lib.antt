@@ -1,2 +1,1 @@
-pub mod Path
 pub mod Above

@@ -4,8 +4,8 @@ use mathlib.Core.Path.{_∙_}
 use mathlib.Core.Logic.{inl, inr, ⊎-elim}
 use native.Mathlib.Omega.{arith}
 use borrow.Author.Needs.{needs}
-use Rattle.kept.proofs.KeptOfLaws.{kept-descend, kept-ascend, kept-aside, kept-plain}
-use Rattle.kept.proofs.KeptPassLaws.{kept-few}
+use Rattle.kept_rows.proofs.KeptOfLaws.{kept-descend, kept-ascend, kept-aside, kept-plain}
+use Rattle.kept_rows.proofs.KeptPassLaws.{kept-few}
 use Rattle.kept.proofs.KeptTreeLaws.{side-range}
 use Rattle.kept.proofs.kept_of.Statement.{statement}
 use Rattle.kept.proofs.kept_of.Tie as tie

@@ -8,8 +8,8 @@ use Rattle.scan.specs.Want.{fits}
 use Rattle.scan.proofs.RangeLaws.{cover-length}
 use Rattle.scan.proofs.SideLaws.{nests}
 use Rattle.scan.proofs.TreeContextLaws.{root-in, turn-less}
-use Rattle.preceding.proofs.BeforeLaws.{Behind, Within, before-start, before-tree, last-in, before-asks, before-next}
-use Rattle.preceding.proofs.BeforeLaws.{before-turn, before-done}
+use Rattle.preceding.proofs.BeforeLaws.{Behind, Within, before-start, before-tree, last-in, before-asks}
+use Rattle.preceding.proofs.BeforeLaws.{before-next, before-turn, before-done}
 use Rattle.preceding.proofs.rows_before.Statement.{statement}
 use Rattle.preceding.proofs.rows_before.Tie as tie
 

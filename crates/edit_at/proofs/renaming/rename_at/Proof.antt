@@ -1,11 +1,11 @@
 -- `edit_at::renaming::rename_at` meets its contract. Assumes nothing.
-use mathlib.Core.Path.{sym, _∙_}
+use mathlib.Core.Path.{refl, sym, _∙_}
 use Rattle.tree.specs.Table.{Table, tableOf}
 use Rattle.tree.specs.Edit.{renameDone, renamed}
 use Rattle.tree.specs.Refusal.{renameCheck}
 use Rattle.tree.proofs.SoundLaws.{given-not}
 use Rattle.edit_at.proofs.OutcomeLaws.{leaves, own-refused, own-passed}
-use Rattle.piece.proofs.PieceLaws.{given-is}
+use Rattle.tree.proofs.FindLaws.{given-refused}
 use borrow.Author.Needs.{needs}
 use Rattle.edit_at.proofs.renaming.rename_at.Statement.{statement}
 use Rattle.edit_at.proofs.renaming.rename_at.Tie as tie
@@ -33,7 +33,8 @@ returns : tie.Need-returns
 unfolding renameCheck
 returns c =
     let t = lent (at-unfit (c .before)) in
-    leaves t (own-refused _ _ t (given-is 16 _ (sym (c .before .unfit .ensures) ∙ c .if1 .taken)))
+    let unfit = sym (c .before .unfit .ensures) ∙ c .if1 .taken in
+    leaves t (own-refused _ _ t (given-refused _ 16 _ 16 _ .1 (unfit, refl, refl)))
 
 mul-name : tie.Need-mul-name
 mul-name c = search needs

@@ -1,46 +1,30 @@
--- `shift::mover::close_column` meets its contract. Assumes nothing.
+-- `shift::mover::close_column` meets its contract: later rows pulled up, then the freed rows cleared. Assumes nothing.
 use native.Mathlib.Omega.{arith}
-use Rattle.shift.proofs.MoverLaws.{close-column}
+use Rattle.shift.proofs.MoverLaws.{pulled-cleared}
 use borrow.Author.Needs.{needs}
 use Rattle.shift.proofs.mover.close_column.Statement.{statement}
 use Rattle.shift.proofs.mover.close_column.Tie as tie
 
-sub-behind : tie.Need-sub-behind
-sub-behind c = search needs
+pull-column-requires : tie.Need-pull-column-requires
+pull-column-requires c κs = search needs
 
-mul-shift-up : tie.Need-mul-shift-up
-mul-shift-up c = search needs
+sub-left : tie.Need-sub-left
+sub-left c = search needs
 
-sub-shift-up : tie.Need-sub-shift-up
-sub-shift-up c = search needs
-
-part-shift-up-start : tie.Need-part-shift-up-start
-part-shift-up-start c = search needs
-
-part-shift-up-end : tie.Need-part-shift-up-end
-part-shift-up-end c = search needs
-
-shift-up-requires : tie.Need-shift-up-requires
-shift-up-requires c κs = search needs
+clear-column-requires : tie.Need-clear-column-requires
+clear-column-requires c κs = search needs
 
 same-length : tie.Need-same-length
 same-length c = search needs
 
 returns : tie.Need-returns
 returns c =
-    let a = c .before .before .before .before .before .args in
-    close-column (a .row) (a .n) (a .by) (a .column .now) (c .before .before .shift-up .last .0) (omega arith)
-    (c .before .before .shift-up .ensures)
+    let cleared = c .before .before in
+    let pulled = cleared .before .before .before .before in
+    let a = pulled .before .before .before .args in
+    pulled-cleared (a .row) (a .n) (a .by) (a .column .now) _ _ (omega arith) (omega arith)
+    (pulled .pull-column .ensures) (cleared .clear-column .ensures)
 
 pub close-column-spec : {M : Type 1} → statement M
 close-column-spec =
-    tie.close
-    (tie.spec
-    sub-behind
-    mul-shift-up
-    sub-shift-up
-    part-shift-up-start
-    part-shift-up-end
-    shift-up-requires
-    same-length
-    returns)
+    tie.close (tie.spec pull-column-requires sub-left clear-column-requires same-length returns)

@@ -1,0 +1,3 @@
+pub mod KeptOfLaws
+pub mod KeptOuterLaws
+pub mod KeptPassLaws

@@ -1,0 +1,2 @@
+pub mod StayLaws
+pub mod WriteLaws
