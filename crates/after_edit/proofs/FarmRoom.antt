@@ -5,12 +5,11 @@
 -- where it is shorter, `less-room`; a deletion and a renaming ask for no room: `no-room`. Assumes nothing.
 use Prim.Native.Nat.{ℕ, zero, suc, _<_}
 use mathlib.Core.Path.{_≡_, refl}
-use mathlib.Core.List.{List, [], _∷_, _++_}
+use mathlib.Core.List.{[], _∷_}
 use native.Mathlib.Nat.{not-suc-le-zero, le-of-suc-le-suc}
 use native.Mathlib.Omega.{arith}
-use lib.ListN.{take}
 use Rattle.tree.specs.Search.{least, someBelow, nearest}
-use Rattle.tree.specs.Table.{Table, tableOf, at, shortest, countOk, SameRows}
+use Rattle.tree.specs.Table.{at, shortest, countOk, SameRows}
 use Rattle.tree.specs.Sound.{levelOk, runOf, sizeOf, sizeOk, kindOk, hasName, nameOk, rowOf, keyOk, besideKeyOk, rowOk}
 use Rattle.tree.specs.Sound.{firstBad}
 use Rattle.tree.specs.Tree.{parent, above, ancestor, otherRoot}
@@ -19,6 +18,7 @@ use Rattle.tree.specs.Refusal.{given, givenAt, next, tableCheck, keyCheck, badP
 use Rattle.tree.specs.Outcome.{editIf, editCheck, insertOutcome}
 use Rattle.tree.specs.declared.Edited.the-variants.{Made, Refused}
 use Rattle.tree.proofs.FarmCalls.{farm, leaf, leafOf, twig}
+use Rattle.tree.proofs.FarmSpare.{spared, same-farm}
 use Rattle.after_edit.specs.Act.{insertion, deletion, renaming, outcome}
 use Rattle.after_edit.specs.Independent.{Independent, inTurn}
 use Rattle.after_edit.proofs.EitherOrder.{either-order}
@@ -70,25 +70,10 @@ unfolding least someBelow nearest shortest countOk levelOk runOf sizeOf sizeOk k
 third-refused = (refl, refl)
 
 -- ── the same rows in use, other spare rows ──
--- the farm with spare rows of its own: in the key column these, in the others a row more
-abbrev spared : List ℕ → Table
-spared keys =
-    tableOf
-    (take 10 (farm .key) ++ keys)
-    (take 10 (farm .size) ++ (1 ∷ 2 ∷ 3 ∷ []))
-    (take 10 (farm .level) ++ (4 ∷ 5 ∷ 6 ∷ []))
-    (take 10 (farm .kind) ++ (7 ∷ 8 ∷ 9 ∷ []))
-    (take 10 (farm .name) ++ (1 ∷ 2 ∷ 3 ∷ []))
-    10
-
--- its rows in use are the farm's
-same : (keys : List ℕ) → SameRows farm (spared keys)
-same keys = record { count = refl; key = refl; size = refl; level = refl; kind = refl; name = refl }
-
 -- the shortest column is as long, the others are not, and no spare row is the same: the same answer
 pub same-room : outcome (insertion 31 leaf) farm .answer ≡ outcome (insertion 31 leaf) (spared (1 ∷ 2 ∷ [])) .answer
 unfolding shortest
-same-room = in-use-edit farm (spared (1 ∷ 2 ∷ [])) (same (1 ∷ 2 ∷ [])) (insertion 31 leaf) refl .0
+same-room = in-use-edit farm (spared (1 ∷ 2 ∷ [])) (same-farm (1 ∷ 2 ∷ [])) (insertion 31 leaf) refl .0
 
 -- one column has no room: another answer
 pub less-room : (outcome (insertion 31 leaf) farm .answer ≡ Made (insertDone farm 7 leaf))
@@ -102,6 +87,6 @@ less-room = (refl, refl)
 pub no-room : (outcome (deletion 21) farm .answer ≡ outcome (deletion 21) (spared []) .answer)
     × (outcome (renaming 24 6) farm .answer ≡ outcome (renaming 24 6) (spared []) .answer)
 no-room = (
-  in-use-edit farm (spared []) (same []) (deletion 21) tt .0,
-  in-use-edit farm (spared []) (same []) (renaming 24 6) tt .0,
+  in-use-edit farm (spared []) (same-farm []) (deletion 21) tt .0,
+  in-use-edit farm (spared []) (same-farm []) (renaming 24 6) tt .0,
 )

@@ -176,7 +176,7 @@ module _ {size level kind name : List ℕ} {n p a e : ℕ} {want : Want} {old : 
               (rows-cut passing a N e (omega (arith, s .low)) not-past)),
         )
 
-        -- there is a place for it
+        -- there is room for it
         pub walk-room : next < length out
         walk-room = omega (arith, fewer, walk-length)
 

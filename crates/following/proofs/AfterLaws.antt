@@ -26,11 +26,11 @@ use Rattle.scan.proofs.TreeContextLaws.{root-of, low as tree-low, end-in as tre
 use Rattle.scan.proofs.TreeContextLaws.{end-le, later-root}
 use Rattle.scan.proofs.SideLaws.{after-least, after-met, after-le, nests}
 
--- the contexts of places i to j
+-- the contexts of numbers i to j
 abbrev pub some-of : ℕ → ℕ → List ℕ → List ℕ
 some-of i j cs = take (j - i) (drop i cs)
 
--- the trees of the contexts before place i are done, those from i on lie ahead of row pos
+-- the trees of the contexts before number i are done, those from i on lie ahead of row pos
 pub record Turned (size level : List ℕ) (n : ℕ) (test : ℕ → Bool) (cs d top out : List ℕ) (next i : ℕ) : Type 0 where
   pub few : i ≤ length cs
   pub pos : ℕ
@@ -95,7 +95,7 @@ module _ {size level kind name : List ℕ} {n : ℕ} {want : Want} {cs d top : L
     same-root : (k : ℕ) → i ≤ k → k < j → at top (at cs k) ≡ at top (at cs i)
     same-root = tree-same (pre .shape) (pre .contexts) roots m q
 
-    -- one of them, by its place among them
+    -- one of them, by its number among them
     part-at : (k : ℕ) → k < j - i → at (some-of i j cs) k ≡ at cs (i + k)
     part-at k h = rw (getD-take, getD-drop)
 

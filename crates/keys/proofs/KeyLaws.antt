@@ -1,7 +1,6 @@
 -- The walk along a chain finds a repeated key: `walk-start`, `walk-step`, `walk-less`, and its ends `fresh-true`,
 -- `fresh-false`. Chains start empty and grow by a row: `cleared`, `chained-more`. These hold for any number of buckets.
--- The test of a key: `key-zero`, `key-again`, `key-good`. The test of a piece's key: `clash-taken`, `clash-none`.
--- Assumes nothing.
+-- The test of a key: `key-zero`, `key-again`, `key-good`. Assumes nothing.
 use mathlib.Core.Path.{_≡_, refl, sym, ap, _∙_}
 use mathlib.Core.Logic.{_⊎_, inl, inr}
 use mathlib.Core.Bool.{Bool, true, false, not}
@@ -154,13 +153,3 @@ pub key-good : (key : List ℕ) (i : ℕ) → (at key i ≡ 0 → ⊥) → eqb (
     → not (keyOk key i) ≡ false
 unfolding keyOk
 key-good key i n e = simp (ne-eqb _ _ n, e)
-
--- a key that is not fresh among the first n rows is one of theirs
-pub clash-taken : (key : List ℕ) (n x : ℕ) → eqb (rowOf key n x) n ≡ false → ltb (rowOf key n x) n ≡ true
-unfolding rowOf
-clash-taken key n x e =
-    let q : least (λ k. eqb (at key k) x) n ≡ n → ⊥ = eqb-false _ _ e in
-    lt-ltb (least (λ k. eqb (at key k) x) n) n (omega (arith, least-le (λ k. eqb (at key k) x) n))
-
-pub clash-none : (key : List ℕ) (n x : ℕ) → eqb (rowOf key n x) n ≡ true → ltb (rowOf key n x) n ≡ false
-clash-none key n x e = le-ltb (rowOf key n x) n (omega (arith, eqb-true (rowOf key n x) n e))

@@ -1,12 +1,12 @@
-// The row of a key, the least row whose key is bad, and the least row of a piece whose key is taken, by rows chained
-// in buckets. A link is one more than a row, or 0 for none: `heads` has for each bucket a link to its last row, `next`
-// for each row a link to the row before it in its bucket.
+// The row of a key, and the least row whose key is bad, by rows chained in buckets. A link is one more than a row, or 0
+// for none: `heads` has for each bucket a link to its last row, `next` for each row a link to the row before it in its
+// bucket.
 ghost use mathlib.Core.Path.{_≡_};
 ghost use Prim.Native.Nat.{_<_, _≤_};
 ghost use lib.ListN.{length};
 ghost use lib.Dec.{eqb};
 ghost use Rattle.tree.specs.Sound.{rowOf};
-ghost use Rattle.keys.specs.FirstKey.{firstKey, firstClash};
+ghost use Rattle.keys.specs.FirstKey.{firstKey};
 ghost use Rattle.keys.specs.Chain.{bucketOf, ChainRoom, Chained};
 
 // The least of the first n rows with the key x, or n.
@@ -25,7 +25,7 @@ pub fn row_of(key: &[usize], n: usize, x: usize) -> usize
 }
 
 // The bucket of a key. The number of buckets is known wherever this is inlined, so no division is left.
-fn bucket(x: usize, buckets: usize) -> usize
+pub fn bucket(x: usize, buckets: usize) -> usize
     requires { ⌜ 0 < buckets ⌝ }
     ensures { λ r. ⌜ (r ≡ bucketOf buckets x) × (r < buckets) ⌝ }
 {
@@ -33,7 +33,7 @@ fn bucket(x: usize, buckets: usize) -> usize
 }
 
 // Whether no row below i has the key x: a walk along the chain of x's bucket.
-fn fresh(key: &[usize], i: usize, x: usize, heads: &[u16], next: &[u16], buckets: usize) -> bool
+pub fn fresh(key: &[usize], i: usize, x: usize, heads: &[u16], next: &[u16], buckets: usize) -> bool
     requires { ⌜ i ≤ length (now key) ⌝ }
     requires { ⌜ ChainRoom (now heads) (now next) buckets i ⌝ }
     requires { ⌜ Chained buckets (now key) (now heads) (now next) i ⌝ }
@@ -95,96 +95,4 @@ pub fn first_key(key: &[usize], n: usize) -> usize
     let mut heads = [0u16; 16384];
     let mut next = [0u16; 4096];
     first_in(key, n, &mut heads, &mut next, 16381)
-}
-
-// Chains the first n rows, without a test of their keys.
-fn chain(key: &[usize], n: usize, heads: &mut [u16], next: &mut [u16], buckets: usize)
-    requires { ⌜ n ≤ length (now key) ⌝ }
-    requires { ⌜ ChainRoom (now heads) (now next) buckets n ⌝ }
-    requires { ⌜ Chained buckets (now key) (now heads) (now next) 0 ⌝ }
-    ensures { λ _. ⌜ Chained buckets (now (key .entry)) (now (heads .exit)) (now (next .exit)) n ⌝ }
-{
-    let mut i = 0;
-    while i < n {
-        let own = bucket(key[i], buckets);
-        next[i] = heads[own];
-        heads[own] = (i + 1) as u16;
-        i += 1;
-    }
-}
-
-// The least of the first m rows of a piece whose key one of the first n rows has, or m: a search for each key.
-fn clash_by_rows(key: &[usize], n: usize, piece: &[usize], m: usize) -> usize
-    requires { ⌜ n ≤ length (now key) ⌝ }
-    requires { ⌜ m ≤ length (now piece) ⌝ }
-    ensures { λ r. ⌜ r ≡ firstClash (now (key .entry)) n (now (piece .entry)) m ⌝ }
-{
-    let mut i = 0;
-    while i < m {
-        if row_of(key, n, piece[i]) < n {
-            return i;
-        }
-        i += 1;
-    }
-    i
-}
-
-// The same by the chains of the first n rows. No row is chained at first.
-fn clash_in(
-    key: &[usize],
-    n: usize,
-    piece: &[usize],
-    m: usize,
-    heads: &mut [u16],
-    next: &mut [u16],
-    buckets: usize,
-) -> usize
-    requires { ⌜ n ≤ length (now key) ⌝ }
-    requires { ⌜ m ≤ length (now piece) ⌝ }
-    requires { ⌜ ChainRoom (now heads) (now next) buckets n ⌝ }
-    requires { ⌜ Chained buckets (now key) (now heads) (now next) 0 ⌝ }
-    ensures { λ r. ⌜ r ≡ firstClash (now (key .entry)) n (now (piece .entry)) m ⌝ }
-{
-    chain(key, n, heads, next, buckets);
-    let mut i = 0;
-    while i < m {
-        if !fresh(key, n, piece[i], heads, next, buckets) {
-            return i;
-        }
-        i += 1;
-    }
-    i
-}
-
-// The same in columns of its own, as first_key has them, in time linear in both.
-fn clash_by_chains(key: &[usize], n: usize, piece: &[usize], m: usize) -> usize
-    requires { ⌜ (n ≤ 4096) × (n ≤ length (now key)) ⌝ }
-    requires { ⌜ m ≤ length (now piece) ⌝ }
-    ensures { λ r. ⌜ r ≡ firstClash (now (key .entry)) n (now (piece .entry)) m ⌝ }
-{
-    if n <= 64 {
-        let mut heads = [0u16; 256];
-        let mut next = [0u16; 64];
-        return clash_in(key, n, piece, m, &mut heads, &mut next, 241);
-    }
-    if n <= 512 {
-        let mut heads = [0u16; 2048];
-        let mut next = [0u16; 512];
-        return clash_in(key, n, piece, m, &mut heads, &mut next, 2029);
-    }
-    let mut heads = [0u16; 16384];
-    let mut next = [0u16; 4096];
-    clash_in(key, n, piece, m, &mut heads, &mut next, 16381)
-}
-
-// The same by the way that is faster for the piece.
-pub fn first_clash(key: &[usize], n: usize, piece: &[usize], m: usize) -> usize
-    requires { ⌜ (n ≤ 4096) × (n ≤ length (now key)) ⌝ }
-    requires { ⌜ m ≤ length (now piece) ⌝ }
-    ensures { λ r. ⌜ r ≡ firstClash (now (key .entry)) n (now (piece .entry)) m ⌝ }
-{
-    if m <= 4 {
-        return clash_by_rows(key, n, piece, m);
-    }
-    clash_by_chains(key, n, piece, m)
 }

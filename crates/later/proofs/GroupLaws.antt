@@ -1,6 +1,6 @@
 -- The later siblings of the contexts of one role, group by group. How far the contexts of a group reach: `reach-..`.
 -- Contexts whose rows lie apart: `role-apart`. A turn of the function that writes them: `group-start`, `group-some`,
--- `group-asks`, `group-sum`, `group-turn`, `group-done`, `group-length`, `group-place`. Assumes nothing.
+-- `group-asks`, `group-sum`, `group-turn`, `group-done`, `group-length`, `group-index`. Assumes nothing.
 use Prim.Native.Nat.{ℕ, zero, suc, _+_, _-_, _<_, _≤_}
 use mathlib.Core.Path.{_≡_, refl, sym, ap, ap₂, _∙_}
 use mathlib.Core.Logic.{⊎-elim}
@@ -113,7 +113,7 @@ role-nobody axis level n test =
     ∙ gather-zero (λ w. anyOn axis level [] w && test w)
 
 -- ── a turn ──
--- the rows of the contexts before place i are written, and those of the others come after them
+-- the rows of the contexts before number i are written, and those of the others come after them
 pub record Grouped (level : List ℕ) (n : ℕ) (test : ℕ → Bool) (cs d out : List ℕ) (next i : ℕ) : Type 0 where
   pub few : i ≤ length cs
   pub rows : List ℕ
@@ -137,8 +137,8 @@ module _ {size level kind name : List ℕ} {n : ℕ} {want : Want} {cs d : List 
     pub group-length : length out ≡ length d
     group-length = wrote-length (s .wrote) (omega (arith, both-fit, s .wrote .many))
 
-    pub group-place : next ≤ length out
-    group-place = omega (arith, both-fit, group-length)
+    pub group-index : next ≤ length out
+    group-index = omega (arith, both-fit, group-length)
 
     -- no context is left
     pub group-done : length cs ≤ i → Wrote (oneRole 10 level n (fits want kind name) cs) d next out
@@ -163,7 +163,7 @@ module _ {size level kind name : List ℕ} {n : ℕ} {want : Want} {cs d : List 
       here : at cs i < n
       here = pre .contexts .inside i m
 
-      -- the place moves on
+      -- the number moves on
       pub group-less : i < j
       group-less = ⊎-elim
           (λ (x : i ≡ j).

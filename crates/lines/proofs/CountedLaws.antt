@@ -89,4 +89,5 @@ module _ (t : Table) (a : Ask) (up role row : List ℕ) (s : StepReady t a up ro
       → length role ≤ i
       → total ≡ length (stepList t a (pairsOf role row))
   counted-done {i = i} c l =
-      let z : length (stepList t a (pairsFrom role row i)) ≡ 0 = ap length (step-end t a up role row s i l) in omega (arith, c .sum)
+      let z : length (stepList t a (pairsFrom role row i)) ≡ 0 = ap length (step-end t a up role row s i l) in
+      omega (arith, c .sum)

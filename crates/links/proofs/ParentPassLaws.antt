@@ -1,5 +1,5 @@
 -- The pass that finds every parent with the open rows by level: `open-start`, `open-next`, `open-done`, and what a
--- turn asks for: `open-high`, `open-small`, `open-place`. Assumes nothing.
+-- turn asks for: `open-high`, `open-small`. Assumes nothing.
 use Prim.Native.Nat.{ℕ, suc, _+_, _-_, _<_, _≤_}
 use mathlib.Core.Path.{_≡_, refl, sym, ap, subst, _∙_}
 use mathlib.Core.Logic.{⊎-elim}
@@ -41,10 +41,6 @@ module _ (level : List ℕ) where
   parent-none w e =
       nearest-past (λ k. eqb (at level k + 1) (at level w)) 0 w (omega arith)
       (λ k a b. ne-eqb (at level k + 1) (at level w) (λ q. omega arith))
-
-  parent-le : (w : ℕ) → parent level w ≤ w
-  unfolding parent
-  parent-le w = nearest-le (λ k. eqb (at level k + 1) (at level w)) w
 
   last-here : (d i : ℕ) → at level i + 1 ≡ d → lastAbove level d (suc i) ≡ suc i
   unfolding lastAbove nearest
@@ -129,10 +125,6 @@ module _ {size level : List ℕ} {n : ℕ} (s : Shape size level n) where
             ∙ add-one (at path (L - 1))
             ∙ sym (parent-open p)
             ∙ sym (parent-last level i (suc (L - 1)) (omega arith))
-
-    -- the parent's place is that of an earlier row
-    pub open-place : P ≤ i
-    open-place = omega (arith, parent-here, parent-le level i)
 
     opens-next : (k : ℕ) → k ≤ L → lastAbove level (suc k) (suc i) ≡ suc (at (set path L i) k)
     opens-next k a = ⊎-elim

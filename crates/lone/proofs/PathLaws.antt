@@ -1,6 +1,6 @@
 -- The rows on the path of a link, ascending: none (`path-none`), those of a row are those of its parent and the row
 -- itself (`path-snoc`), and how many they are (`path-above-count`, `path-own-count`). The loop that writes them from
--- the last one down: `down-start`, `down-next`, `down-done`, and what a turn asks for: `down-some`, `down-length`.
+-- the last one down: `path-start`, `path-next`, `path-done`, and what a turn asks for: `path-some`, `path-length`.
 -- Assumes nothing.
 use Prim.Native.Nat.{ℕ, zero, suc, _+_, _<_, _≤_}
 use mathlib.Core.Path.{_≡_, refl, sym, ap, _∙_}
@@ -65,8 +65,8 @@ module _ {size level : List ℕ} {n : ℕ} (s : Shape size level n) where
         ∙ ap (λ (k : ℕ). k + 1) path-above-count
 
 -- ── the loop ──
--- the k rows of the path from a are to go to the first k places, and the rows below them are written
-pub record Down (level : List ℕ) (n link : ℕ) (old out : List ℕ) (a k : ℕ) : Type 0 where
+-- the k rows of the path from a are to be the first k results, and the rows below them are written
+pub record PathLeft (level : List ℕ) (n link : ℕ) (old out : List ℕ) (a k : ℕ) : Type 0 where
   pub below : List ℕ
   pub low : a ≤ n
   pub many : length (pathRows level n a) ≡ k
@@ -80,8 +80,8 @@ empty (x ∷ xs) e = absurd (omega arith)
 
 module _ {size level : List ℕ} {n : ℕ} {up : List ℕ} {link m : ℕ} {old : List ℕ}
     (h : PathIn size level n up link m old) where
-  pub down-start : Down level n link old old link m
-  down-start = record {
+  pub path-start : PathLeft level n link old old link m
+  path-start = record {
     below = [];
     low = h .low;
     many = h .many;
@@ -89,7 +89,7 @@ module _ {size level : List ℕ} {n : ℕ} {up : List ℕ} {link m : ℕ} {old :
     holds = sym (take-append-drop m old) ∙ ap (λ (j : ℕ). take m old ++ drop j old) (sym (h .many));
   }
 
-  module _ {out : List ℕ} {a k : ℕ} (s : Down level n link old out a k) where
+  module _ {out : List ℕ} {a k : ℕ} (s : PathLeft level n link old out a k) where
     -- how many rows are left and written
     parts : length (pathRows level n link) ≡ k + length (s .below)
     parts =
@@ -97,19 +97,19 @@ module _ {size level : List ℕ} {n : ℕ} {up : List ℕ} {link m : ℕ} {old :
         ∙ length-append (pathRows level n a) (s .below)
         ∙ ap (λ (j : ℕ). j + length (s .below)) (s .many)
 
-    pub down-few : k ≤ length old
-    down-few = omega (arith, parts, h .many, h .room)
+    pub path-few : k ≤ length old
+    path-few = omega (arith, parts, h .many, h .room)
 
-    pub down-length : length out ≡ length old
-    down-length =
+    pub path-length : length out ≡ length old
+    path-length =
         let p = parts in
         let q = h .many in
         let r = h .room in
         ap length (s .holds) ∙ simp (length-append, length-take, length-drop) (omega arith)
 
     -- where a row is left, the link names one
-    pub down-some : 0 < k → 0 < a
-    down-some l = go a refl
+    pub path-some : 0 < k → 0 < a
+    path-some l = go a refl
       where
         go : (x : ℕ) → a ≡ x → 0 < x
         go zero e =
@@ -135,10 +135,10 @@ module _ {size level : List ℕ} {n : ℕ} {up : List ℕ} {link m : ℕ} {old :
       fewer : length (pathRows level n a) ≡ length (pathRows level n (at up v)) + 1
       fewer = ap length last ∙ length-append (pathRows level n (at up v)) (v ∷ [])
 
-      pub down-next : Down level n link old (set out j v) (at up v) j
-      down-next =
+      pub path-next : PathLeft level n link old (set out j v) (at up v) j
+      path-next =
           let rest : List ℕ = s .below ++ drop (length (pathRows level n link)) old in
-          let l : j < length old = omega (arith, down-few) in
+          let l : j < length old = omega (arith, path-few) in
           record {
             below = v ∷ s .below;
             low = omega (arith, P-is, parent-low level v, row-in);
@@ -155,9 +155,9 @@ module _ {size level : List ℕ} {n : ℕ} {up : List ℕ} {link m : ℕ} {old :
                 ∙ set-at (take j old) (getD old j 0) rest v j (length-take-le j old (omega arith));
           }
 
-    pub down-done : k ≤ 0 → Wrote (pathRows level n link) old m out
+    pub path-done : k ≤ 0 → Wrote (pathRows level n link) old m out
     unfolding overwritten
-    down-done l =
+    path-done l =
         let z : k ≡ 0 = omega arith in
         let b : pathRows level n link ≡ s .below =
         s .split ∙ ap (λ (xs : List ℕ). xs ++ s .below) (empty (pathRows level n a) (s .many ∙ z)) in

@@ -82,7 +82,7 @@ bit-pow (suc a) (suc b) =
     bit-half (2 ^ suc a) b ∙ ap (λ (n : ℕ). bit n b) (pow-half a) ∙ bit-pow a b ∙ sym (eqb·suc-suc b a)
 
 -- b is the lowest bit of x that is set, and y is x without it
-pub record Lowest (x b y : ℕ) : Type 0 where
+pub record LowestBit (x b y : ℕ) : Type 0 where
   pub set : bit x b ≡ true
   pub below : (i : ℕ) → i < b → bit x i ≡ false
   pub rest : (i : ℕ) → bit y i ≡ (ltb b i && bit x i)
@@ -105,7 +105,7 @@ module _ (x : ℕ) where
       and-step x (x - 1) ∙ ap₂ (λ (p q : ℕ). bitAnd (x / 2) p * 2 + q) h d
       ∙ ap (λ (p : ℕ). p * 2 + 0) (and-self (x / 2))
 
-  lowest-odd : x % 2 ≡ 1 → Lowest x zero (bitAnd x (x - 1))
+  lowest-odd : x % 2 ≡ 1 → LowestBit x zero (bitAnd x (x - 1))
   lowest-odd e = record {
     set = bit-low x ∙ ap (λ (n : ℕ). eqb n 1) e;
     below = λ i l. absurd (not-suc-le-zero l);
@@ -123,7 +123,7 @@ module _ (x : ℕ) where
         let d : min (x % 2) ((x - 1) % 2) ≡ 0 = omega arith in
         and-step x (x - 1) ∙ ap₂ (λ (p q : ℕ). bitAnd (x / 2) p * 2 + q) h d
 
-    lowest-even : (b : ℕ) → Lowest (x / 2) b (bitAnd (x / 2) (x / 2 - 1)) → Lowest x (suc b) (bitAnd x (x - 1))
+    lowest-even : (b : ℕ) → LowestBit (x / 2) b (bitAnd (x / 2) (x / 2 - 1)) → LowestBit x (suc b) (bitAnd x (x - 1))
     lowest-even b h = record {
       set = bit-half x b ∙ h .set;
       below = elim [
@@ -143,11 +143,11 @@ half-lt k h = shr-lt k 1 (rw add-one h)
 
 -- b is the lowest bit of x, and one of the first k
 abbrev lowestIn : ℕ → ℕ → ℕ → Type 0
-lowestIn k x b = (b < k) × Lowest x b (bitAnd x (x - 1))
+lowestIn k x b = (b < k) × LowestBit x b (bitAnd x (x - 1))
 
 -- the number of zeros at the end of a word that is not 0 is the place of its lowest bit
 pub lowest-bit : (k x : ℕ) → x < 2 ^ k → (x ≡ 0 → ⊥)
-    → (trailingZeros k x < k) × Lowest x (trailingZeros k x) (bitAnd x (x - 1))
+    → (trailingZeros k x < k) × LowestBit x (trailingZeros k x) (bitAnd x (x - 1))
 unfolding trailingZeros
 lowest-bit zero x l n = absurd (n (lt-one l))
 lowest-bit (suc k) x l n = go (x % 2) refl (lowest-bit k (x / 2) (half-lt k l))

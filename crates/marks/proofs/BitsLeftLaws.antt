@@ -10,7 +10,7 @@ use lib.Dec.{leb, ltb}
 use lib.Bits.{bitAnd}
 use lib.Count.{trailingZeros}
 use Rattle.marks.specs.RowSet.{bit}
-use Rattle.marks.proofs.BitLaws.{bit-zero, Lowest, lowest-bit, lowest-less}
+use Rattle.marks.proofs.BitLaws.{bit-zero, LowestBit, lowest-bit, lowest-less}
 
 -- rest has the bits of the word from next on
 pub record Left (word next rest : ℕ) : Type 0 where
@@ -46,7 +46,7 @@ module _ {word next rest : ℕ} (s : Left word next rest) where
 
   module _ (some : rest ≡ 0 → ⊥) where
     -- its lowest bit: one of the 64, from next on, a bit of the word, with none before it
-    lowest : Lowest rest (trailingZeros 64 rest) (bitAnd rest (rest - 1))
+    lowest : LowestBit rest (trailingZeros 64 rest) (bitAnd rest (rest - 1))
     lowest = lowest-bit 64 rest (s .small) some .1
 
     pub left-high : trailingZeros 64 rest < 64

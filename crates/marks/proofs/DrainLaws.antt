@@ -1,6 +1,6 @@
 -- All rows of a set, taken out word by word (`SetWalk`): at the start (`set-start`), what the next word asks for
 -- (`set-asks`), after it (`set-sum`, `set-next`), and at the end (`set-done`); the column keeps its length
--- (`set-length`) and holds what is written (`set-place`). Assumes nothing.
+-- (`set-length`) and holds what is written (`set-index`). Assumes nothing.
 use mathlib.Core.Path.{_≡_, refl, sym, ap, ap₂, _∙_}
 use mathlib.Core.Bool.{Bool, true, false, _&&_}
 use mathlib.Core.List.{List, [], _++_, append-nil, append-assoc}
@@ -128,8 +128,8 @@ module _ {kind name : List ℕ} {n : ℕ} {want : Want} {old : List ℕ} {used :
     pub set-length : length out ≡ length out₀
     set-length = wrote-length (s .wrote) room
 
-    pub set-place : m ≤ length out
-    set-place = omega (arith, s .wrote .many, set-length, room)
+    pub set-index : m ≤ length out
+    set-index = omega (arith, s .wrote .many, set-length, room)
 
     -- words from next on that are not marked hold no rows
     settled : (j : ℕ) → s .next ≤ j → j ≤ 64 → ((i : ℕ) → s .next ≤ i → i < j → bit used i ≡ false)

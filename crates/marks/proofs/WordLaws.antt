@@ -1,5 +1,5 @@
 -- One word's rows, taken out lowest first (`WordWalk`): at the start (`word-start`), past a row that does not pass
--- (`word-no`), with one that does (`word-place`, `word-yes`), and at the end (`word-done`); the column keeps its
+-- (`word-no`), with one that does (`word-index`, `word-yes`), and at the end (`word-done`); the column keeps its
 -- length (`word-length`). Assumes nothing.
 use mathlib.Core.Path.{_≡_, sym, ap, ap₂, _∙_}
 use mathlib.Core.Bool.{Bool, true, false, _&&_, and-false}
@@ -135,8 +135,8 @@ module _ (test : ℕ → Bool) (base word : ℕ) (old : List ℕ) where
                 gather-grows (passing test base word) after (base + 64) high,
               )
 
-          pub word-place : at < length out
-          word-place = omega (arith, s .wrote .many, fewer, word-length)
+          pub word-index : at < length out
+          word-index = omega (arith, s .wrote .many, fewer, word-length)
 
           pub word-yes : WordWalk test base word old (set out at row) (bitAnd rest (rest - 1)) (at + 1)
           word-yes = record {

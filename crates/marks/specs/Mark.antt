@@ -49,7 +49,7 @@ pub record Gathers (size level : List ℕ) (n p a e : ℕ) : Type 0 where
   pub inside : e ≤ p + at size p + 1
   pub word : e ≤ 64 * (a / 64) + 64
 
--- what the context at place i reaches is to go in; what the contexts of done reach is in
+-- what the context at number i reaches is to go in; what the contexts of done reach is in
 pub record Turn (axis : ℕ) (size level : List ℕ) (n : ℕ) (cs : List ℕ) (i : ℕ) (done words : List ℕ) (used : ℕ)
     : Type 0 where
   pub shape : Shape size level n

@@ -25,7 +25,7 @@ use Rattle.pairs_left.specs.Left.{Filled, filled, put, puts, PutRoom, Pu
 use Rattle.pairs_left.proofs.StayLaws.{left-carried, row-to, carried-to}
 
 -- ── a column ──
--- written at the place n, which counts only where it is kept
+-- written as result number n, which counts only where it is kept
 begins-more : {xs old new : List ℕ} {left n : ℕ} (b : Bool) (v : ℕ) → Begins xs old left n new → n < left
     → left ≤ length old → Begins (cond b xs (xs ++ (v ∷ []))) old left (n + cond b 0 1) (set new n v)
 begins-more {xs} {old} {new} {left} {n} b v h l m = record {
@@ -43,7 +43,7 @@ begins-more {xs} {old} {new} {left} {n} b v h l m = record {
         ∙ take-suc-set new n v (omega (arith, h .long))
         ∙ ap (λ (ys : List ℕ). ys ++ (v ∷ [])) (h .front)
 
--- all places written
+-- all results written
 begins-all : {xs old new : List ℕ} {left : ℕ} → length xs ≡ left → Begins xs old left left new
     → new ≡ overwritten xs old
 unfolding overwritten
@@ -134,11 +134,11 @@ module _ (role row : List ℕ) (m : Move) (left : ℕ) (oldRole oldRow : List �
       pub writing-reads : n < left → i < length role
       writing-reads l = omega (arith, writing-ahead)
 
-      -- and places to write it
+      -- and room to write it
       pub writing-room : n < left → (n < length outRole) × (n < length outRow)
       writing-room l = (omega (arith, s .roles, w .roles .long), omega (arith, s .rows, w .rows .long))
 
-      -- one place more
+      -- one result more
       next-done : i < length role → carriedUpTo role row m (i + 1)
           ≡ cond (gone (at row i)) (carriedUpTo role row m i)
           (carriedUpTo role row m i ++ (pair (at role i) (new (at row i)) ∷ []))
@@ -165,7 +165,7 @@ module _ (role row : List ℕ) (m : Move) (left : ℕ) (oldRole oldRow : List �
           one false e = ap (λ (ps : List Pair). carriedUpTo role row m i ++ ps)
               (carried-stays gone new (pair (at role i) (at row i)) [] e)
 
-      -- the pair at place i written to place n, which counts only where the pair stays
+      -- the pair at place i written as result number n, which counts only where the pair stays
       pub writing-more : (v : ℕ) → pos v ≡ rowAfter (m .first) (m .moved) (at row i) → n < left
           → Writing role row m left oldRole oldRow (set outRole n (at role i)) (set outRow n v)
           (n + cond (gone (at row i)) 0 1) (i + 1)
@@ -205,7 +205,7 @@ module _ (role row : List ℕ) (m : Move) (left : ℕ) (oldRole oldRow : List �
           }
 
 -- ── a few pairs ──
--- at most one place more
+-- at most one result more
 at-most : (n : ℕ) (b : Bool) → n + cond b 0 1 ≤ n + 1
 at-most n true = omega arith
 at-most n false = omega arith
@@ -279,7 +279,7 @@ module _ (role row : List ℕ) (m : Move) (left : ℕ) (oldRole oldRow : List �
         omega (arith, a, at-most (after k .next) (goneRow (m .to) (m .first) (at row (i + k)))),
       )
 
-  -- whatever the columns and the next place are called
+  -- whatever the columns and the next number are called
   pub writing-puts : {k r : ℕ} {newRole newRow : List ℕ} → n + k ≤ left
       → Puts k role row m i n outRole outRow r newRole newRow
       → Writing role row m left oldRole oldRow newRole newRow r (i + k)

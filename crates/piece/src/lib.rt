@@ -100,7 +100,7 @@ pub fn check_piece(
     if too_deep(p_level, p_count, level[row] + 1) {
         return Checked::Refused(12, 0);
     }
-    let clash = keys::first_clash(key, count, p_key, p_count);
+    let clash = clash::first_clash(key, count, p_key, p_count);
     if clash < p_count {
         return Checked::Refused(13, clash);
     }

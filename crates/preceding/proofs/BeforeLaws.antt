@@ -25,7 +25,7 @@ use Rattle.scan.proofs.RangeLaws.{contexts-rise, any-hit, any-miss, Covered, co
 use Rattle.scan.proofs.RangeLaws.{cover-range, cover-asks, cover-done}
 use Rattle.scan.proofs.TreeContextLaws.{root-of, same-root, later-root, turn-less}
 
--- the contexts before place i are not after row pos, and the trees of those from i on lie ahead of it
+-- the contexts before number i are not after row pos, and the trees of those from i on lie ahead of it
 pub record Behind (level : List ℕ) (n : ℕ) (test : ℕ → Bool) (cs d top out : List ℕ) (next i : ℕ) : Type 0 where
   pub few : i ≤ length cs
   pub pos : ℕ

@@ -1,4 +1,4 @@
--- A result column that grows from a place on: `appended-..`, twice `appended-then`; `wrote-appended` joins it to what
+-- A result column that grows from a number on: `appended-..`, twice `appended-then`; `wrote-appended` joins it to what
 -- the column begins with, and `appended-front` is that itself. Assumes nothing.
 use mathlib.Core.Path.{_≡_, sym, ap, ap₂, subst, _∙_}
 use mathlib.Core.List.{List, [], _∷_, _++_, append-assoc}
@@ -72,11 +72,11 @@ appended-front h = record { many = omega (arith, h .many); holds = h .holds }
 
 -- ── twice ──
 module _ (d : List ℕ) (p : ℕ) (l : p ≤ length d) where
-  -- the part before the place has its length
+  -- the part before it has its length
   before : (xs : List ℕ) → p + length xs ≡ length (take p d ++ xs)
   before xs = simp (length-append, length-take) (omega arith)
 
-  -- appended at a place: the column begins with what was before it, and then that
+  -- appended from a number on: the column begins with what was before it, and then that
   begins : {xs new : List ℕ} {r : ℕ} → Appended xs d p r new → Wrote (take p d ++ xs) d r new
   unfolding overwritten
   begins {xs} h = record {

@@ -20,14 +20,14 @@ use Rattle.scan.proofs.WroteLaws.{wrote-as, wrote-none, wrote-length}
 use Rattle.scan.proofs.AppendedLaws.{wrote-appended}
 use Rattle.scan.proofs.ScanLaws.{rows-join, rows-same}
 
--- contexts do not fall, from a place to itself or a later one
+-- contexts do not fall, from a number to itself or a later one
 pub contexts-rise : {cs : List ℕ} {n : ℕ} → Contexts cs n → (i j : ℕ) → i ≤ j → j < length cs → at cs i ≤ at cs j
 contexts-rise {cs} h i j l m =
     ⊎-elim (λ (e : i ≡ j). let q = ap (at cs) e in omega arith) (λ k. h .rising i j k m) (eq-or-lt-of-le l)
 
 -- ── on the axis of one of the contexts ──
 module _ (axis : ℕ) (level : List ℕ) where
-  -- a place of the contexts has the row on its axis
+  -- one of the contexts has the row on its axis
   pub any-hit : (cs : List ℕ) (w i : ℕ) → i < length cs → onAxis axis level (at cs i) w ≡ true
       → anyOn axis level cs w ≡ true
   unfolding anyOn
@@ -37,7 +37,7 @@ module _ (axis : ℕ) (level : List ℕ) where
       ap (λ (b : Bool). onAxis axis level c w || b) (any-hit cs w i (le-of-suc-le-suc l) e)
       ∙ or-true (onAxis axis level c w)
 
-  -- no place has
+  -- none has
   pub any-miss : (cs : List ℕ) (w : ℕ) → ((i : ℕ) → i < length cs → onAxis axis level (at cs i) w ≡ false)
       → anyOn axis level cs w ≡ false
   unfolding anyOn

@@ -49,7 +49,7 @@ module _ (from : ℕ) (f : ℕ → Bool) where
       (λ m. omega (arith, more b, rows-grow a b (le-of-suc-le-suc m)))
       (eq-or-lt-of-le l)
 
--- two tests that agree at each of the places
+-- two tests that agree at each of the rows
 pub rows-ext : (from : ℕ) (f g : ℕ → Bool) (k : ℕ) → ((i : ℕ) → i < k → f i ≡ g i)
     → rowsFrom from f k ≡ rowsFrom from g k
 rows-ext from f g zero h = rows-none from f ∙ sym (rows-none from g)
@@ -59,7 +59,7 @@ rows-ext from f g (suc k) h =
     (rows-ext from f g k (λ i l. h i (omega arith))) (h k (le-refl (suc k)))
     ∙ sym (rows-suc from g k)
 
--- places that do not pass add nothing
+-- rows that do not pass add nothing
 rows-stop : (from : ℕ) (f : ℕ → Bool) (j k : ℕ) → j ≤ k → ((i : ℕ) → j ≤ i → i < k → f i ≡ false)
     → rowsFrom from f k ≡ rowsFrom from f j
 rows-stop from f j zero l h = ap (rowsFrom from f) (let e : zero ≡ j = omega arith in e)
@@ -137,7 +137,7 @@ rows-skip f from to h =
     nothing (suc k) = rows-suc from (λ i. false) k ∙ ap (λ (l : List ℕ). l ++ []) (nothing k)
 
 -- ── the loop ──
--- the rows of the first i places are appended, and next is the place after them
+-- the first i rows that pass are appended, and next is the number of the next result
 pub record Scanning (from : ℕ) (f : ℕ → Bool) (k : ℕ) (d : List ℕ) (written : ℕ) (out : List ℕ) (next i : ℕ)
     : Type 0 where
   pub index : i ≤ k
@@ -159,9 +159,9 @@ module _ {from : ℕ} {f : ℕ → Bool} {k : ℕ} {d : List ℕ} {written : ℕ
     inside less e =
         omega (arith, s .appends .many, asks .room, one-more e, rows-grow from f (i + 1) k (omega arith))
 
-    -- there is a place for a row that passes
-    pub scan-place : i < k → f i ≡ true → next < length out
-    scan-place less e = omega (arith, inside less e, scan-length)
+    -- there is room for a row that passes
+    pub scan-index : i < k → f i ≡ true → next < length out
+    scan-index less e = omega (arith, inside less e, scan-length)
 
     module _ (less : i < k) {after : List ℕ} {then : ℕ} where
       -- a row that does not pass
@@ -186,7 +186,7 @@ module _ {from : ℕ} {f : ℕ → Bool} {k : ℕ} {d : List ℕ} {written : ℕ
         (let e : i ≡ k = omega (arith, s .index) in e) (s .appends)
 
 -- ── a range, scanned as a part of the columns ──
--- k places of a part are the rows of the range, and pass the part's test exactly if they fit
+-- k entries of a part are the rows of the range, and pass the part's test exactly if they fit
 module _ {kind name out : List ℕ} {from to written : ℕ} {want : Want}
     (asks : RangeIn kind name from to want out written)
     {g : ℕ → Bool} {k : ℕ} (count : k ≡ to - from)
@@ -240,7 +240,7 @@ module _ {kind name out : List ℕ} {from to written : ℕ} {want : Want}
     fitting : fits want kind name from ≡ true → rowsIn (fits want kind name) from to ≡ from ∷ []
     fitting e = the-row ∙ only-one (fits want kind name from) from e
 
-    -- there is a place for a row that fits
+    -- there is room for a row that fits
     pub one-room : fits want kind name from ≡ true → written < length out
     one-room e = omega (arith, asks .room, ap length (fitting e))
 

@@ -12,9 +12,7 @@ use Rattle.tree.specs.Table.{at}
 use Rattle.tree.specs.Rules.{Shape}
 use Rattle.tree.proofs.TreeLaws.{Under, less?, ancestor-under}
 use Rattle.tree.proofs.SoundLaws.{shape-steps, shape-descendants, shape-fits}
-use Rattle.scan.specs.OneRole.{RoleIn}
-use Rattle.scan.specs.Range.{EndsIn, firstAfter, Nests, Ended}
-use Rattle.scan.specs.Want.{Want}
+use Rattle.scan.specs.Range.{firstAfter, Nests, Ended}
 
 -- ── the least row after one of the contexts ──
 module _ (size : List ℕ) (n : ℕ) (cs : List ℕ) where
@@ -53,15 +51,6 @@ module _ (size : List ℕ) (n : ℕ) (cs : List ℕ) where
   unfolding firstAfter
   after-le zero = le-refl n
   after-le (suc k) = omega (arith, after-le k)
-
--- the contexts' descendants are rows in use
-pub ends-in : {axis : ℕ} {size level kind name : List ℕ} {n : ℕ} {want : Want} {cs d : List ℕ}
-    → RoleIn axis size level kind name n cs want d → EndsIn size n cs
-ends-in pre = record {
-  few = pre .shape .few;
-  in-size = pre .shape .in-size;
-  inside = λ i l. shape-fits (pre .shape) _ (pre .contexts .inside i l);
-}
 
 -- ── nesting ──
 pub nests : {size level : List ℕ} {n : ℕ} → Shape size level n → Nests size n

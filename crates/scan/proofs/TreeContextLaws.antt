@@ -86,7 +86,7 @@ module _ {size level : List ℕ} {n : ℕ} {cs top : List ℕ} (s : Shape size l
         (eq-or-lt-of-le x))
         (less? (at top (at cs k)) (at top (at cs i)))
 
-    -- the place moves on
+    -- the number moves on
     pub turn-less : i < j
     turn-less = ⊎-elim (λ (x : i < j). x)
         (λ (x : j ≤ i).

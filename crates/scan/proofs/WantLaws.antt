@@ -1,6 +1,6 @@
 -- The node test as a wanted kind and a wanted name: `wanted-..` give the kind of a test code by where the code lies;
 -- `fits-not`, `fits-free`, `fits-same` give the test of a row whose kind is known to fit or not; `fits-any`,
--- `fits-kind` are the test where less is wanted; `fits-part..` is the test at a place of a part of the columns;
+-- `fits-kind` are the test where less is wanted; `fits-part..` is the test at a row of a part of the columns;
 -- `fits-passes`: it is 01's test. Assumes nothing.
 use mathlib.Core.Path.{_≡_, sym, ap, ap₂, _∙_}
 use mathlib.Core.Logic.{_⊎_, inl, inr, ⊎-elim}
@@ -91,7 +91,7 @@ module _ (want : Want) (kind name : List ℕ) (w : ℕ) where
       (ne-eqb (want .kind) 5 k) (eq-eqb (want .name) 0 z)
       ∙ and-true (eqb (at kind w) (want .kind)))
 
--- ── the test at a place of a part of the columns ──
+-- ── the test at a row of a part of the columns ──
 -- what a part that starts at a row holds
 part-at : (column : List ℕ) (from k i : ℕ) → i < k → at (take k (drop from column)) i ≡ at column (from + i)
 part-at column from k i l = getD-take k (drop from column) i 0 l ∙ getD-drop from column i 0

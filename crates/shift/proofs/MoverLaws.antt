@@ -123,7 +123,7 @@ pub raised-turn : (add : ℕ) (src : List ℕ) {xs part : List ℕ} {i : ℕ} �
 raised-turn add src {i = i} p h k =
     put-turn p (subst (λ (m : ℕ). i < m) (sym (length-map src (λ l. l + add))) h) k (getD-raised add i src h)
 
--- the rows of the part itself, by places further on
+-- the rows of the part itself, from `by` rows further on
 pub up-turn : (by : ℕ) {xs part : List ℕ} {i : ℕ} → Put (drop by xs) xs part i → i + by < length xs
     → Put (drop by xs) xs (set part i (getD part (i + by) 0)) (i + 1)
 up-turn by {xs} {part} {i} p h =

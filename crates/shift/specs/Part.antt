@@ -4,7 +4,7 @@ use Prim.Native.Nat.{ℕ, _+_, _-_}
 use mathlib.Core.List.{List, _++_}
 use lib.ListN.{take, drop, replicate}
 
--- the first n rows of a part, moved by places towards its end
+-- the first n rows of a part, each moved to `by` rows further on
 unfoldable pub shifted : ℕ → ℕ → List ℕ → List ℕ
 shifted n by xs = take by xs ++ (take n xs ++ drop (n + by) xs)
 

@@ -8,7 +8,7 @@ ghost use Rattle.tree.specs.Table.{at};
 ghost use Rattle.tree.specs.Edit.{opened, closed};
 ghost use Rattle.shift.specs.Part.{shifted, openedPart, pulled, cleared};
 
-// Moves the first n rows of a part by places towards its end, from the last on.
+// Moves the first n rows of a part towards its end, each to `by` rows further on, from the last on.
 fn shift_down(part: &mut [usize], n: usize, by: usize)
     requires { ⌜ n + by ≤ length (now part) ⌝ }
     ensures { λ _. ⌜ now (part .exit) ≡ shifted n by (now (part .entry)) ⌝ }

@@ -33,8 +33,7 @@ pub record CarryFits (role row : List ℕ) (old first : ℕ) (moved : ℤ) (outR
   pub roles : length (carried first moved (pairsOf role row)) ≤ length outRole
   pub rows : length (carried first moved (pairsOf role row)) ≤ length outRow
 
--- ── in row numbers, where the first moved row goes to the row `to`: `new-row` and `gone-row`
--- (proofs/RowMoveLaws.antt) ──
+-- ── in row numbers, where the first moved row goes to the row `to`: RowMoveLaws, `new-row` and `gone-row` ──
 -- row w after the edit
 abbrev pub newRow : ℕ → ℕ → ℕ → ℕ
 newRow to first w = cond (ltb w first) w (w - first + to)

@@ -1,4 +1,4 @@
--- `following::rows_after` meets its contract. The invariant: the trees of the contexts before place i are done.
+-- `following::rows_after` meets its contract. The invariant: the trees of the contexts before number i are done.
 -- Assumes nothing.
 use Prim.Native.Nat.{_-_}
 use native.Mathlib.Omega.{arith}

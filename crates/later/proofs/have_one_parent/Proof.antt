@@ -1,4 +1,4 @@
--- `later::have_one_parent` meets its contract. The loop's invariant: the contexts before place k have the
+-- `later::have_one_parent` meets its contract. The loop's invariant: the contexts before number k have the
 -- parent of the first. Assumes nothing.
 use Prim.Native.Nat.{ℕ, _-_, _<_, _≤_}
 use mathlib.Core.Path.{_≡_, ap}
@@ -22,7 +22,7 @@ abbrev μ-loop : tie.MeasureT-loop
 abbrev head : tie.At-loop Inv-loop μ-loop → tie.Start Inv-loop μ-loop
 head s = s .before .before .before
 
--- the context at place k is a row in use
+-- the context at number k is a row in use
 inside : (c : tie.In-loop Inv-loop μ-loop) → at (head (c .before) .args .rows .now) (c .before .loop .k) < 4096
 inside c =
     let h = head (c .before) .pre in

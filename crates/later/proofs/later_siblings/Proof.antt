@@ -1,4 +1,4 @@
--- `later::later_siblings` meets its contract. The loop's invariant: what the contexts before place i reach is
+-- `later::later_siblings` meets its contract. The loop's invariant: what the contexts before number i reach is
 -- written, what the others reach comes after it, and the set is empty. Assumes nothing.
 use Prim.Native.Nat.{_-_, _≤_}
 use mathlib.Core.Path.{_≡_}
@@ -8,7 +8,7 @@ use borrow.Author.Needs.{needs}
 use lib.ListN.{length}
 use Rattle.scan.specs.Want.{fits}
 use Rattle.marks.specs.RowSet.{Blank}
-use Rattle.later.proofs.GroupLaws.{Grouped, group-start, group-length, group-place, group-done}
+use Rattle.later.proofs.GroupLaws.{Grouped, group-start, group-length, group-index, group-done}
 use Rattle.later.proofs.GroupLaws.{group-less, group-some, group-asks, group-sum, group-turn}
 use Rattle.later.proofs.later_siblings.Statement.{statement}
 use Rattle.later.proofs.later_siblings.Tie as tie
@@ -33,7 +33,7 @@ whole : (s : tie.At-loop Inv-loop μ-loop) → length (s .loop .out) ≡ length 
 whole s = group-length (head s .pre .0) (s .loop .inv .0)
 
 written : (s : tie.At-loop Inv-loop μ-loop) → s .loop .next ≤ length (s .loop .out)
-written s = group-place (head s .pre .0) (s .loop .inv .0)
+written s = group-index (head s .pre .0) (s .loop .inv .0)
 
 loop-holds : tie.Need-loop-holds Inv-loop μ-loop
 loop-holds c =

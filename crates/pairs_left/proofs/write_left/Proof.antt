@@ -1,5 +1,5 @@
 -- `pairs_left::write_left` meets its contract: the pairs before place i that stay stand in front of the result
--- columns, and nothing behind the first `left` places is changed. The loop's invariant cannot name the columns as they
+-- columns, and nothing behind the first `left` results is changed. The loop's invariant cannot name the columns as they
 -- were before the fours, so it says this against any columns against which it held before the loop. Assumes nothing.
 use Prim.Native.Nat.{ℕ, _-_}
 use mathlib.Core.List.{List}

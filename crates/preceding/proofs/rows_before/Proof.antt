@@ -1,4 +1,4 @@
--- `preceding::rows_before` meets its contract. The invariants: the trees of the contexts before place i are done;
+-- `preceding::rows_before` meets its contract. The invariants: the trees of the contexts before number i are done;
 -- in the tree that is being written, the rows below w are written. Assumes nothing.
 use Prim.Native.Nat.{_-_}
 use native.Mathlib.Omega.{arith}

@@ -1,4 +1,4 @@
--- `scan::number_rows` meets its contract. The invariant: the rows of the first i places are appended.
+-- `scan::number_rows` meets its contract. The invariant: the first i rows are appended.
 -- Assumes nothing.
 use mathlib.Core.Path.{refl}
 use mathlib.Core.Bool.{true}
@@ -6,7 +6,7 @@ use Prim.Native.Nat.{_-_, _<_}
 use native.Mathlib.Omega.{arith}
 use borrow.Author.Needs.{needs}
 use lib.ListN.{length}
-use Rattle.scan.proofs.ScanLaws.{Scanning, scan-start, scan-length, scan-place, scan-yes, scan-done}
+use Rattle.scan.proofs.ScanLaws.{Scanning, scan-start, scan-length, scan-index, scan-yes, scan-done}
 use Rattle.scan.proofs.number_rows.Statement.{statement}
 use Rattle.scan.proofs.number_rows.Tie as tie
 
@@ -19,11 +19,11 @@ abbrev μ-loop : tie.MeasureT-loop
 loop-holds : tie.Need-loop-holds Inv-loop μ-loop
 loop-holds c = scan-start
 
--- there is a place for the row
+-- there is room for the row
 free : (c : tie.In-loop Inv-loop μ-loop) → c .before .loop .next < length (c .before .loop .out)
 free c =
     let s = c .before in
-    scan-place (s .before .pre) (s .loop .inv) (c .loop-test .taken) refl
+    scan-index (s .before .pre) (s .loop .inv) (c .loop-test .taken) refl
 
 add-out : tie.Need-add-out Inv-loop μ-loop
 add-out c = search needs

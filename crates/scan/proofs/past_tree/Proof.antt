@@ -1,4 +1,4 @@
--- `scan::past_tree` meets its contract. The invariant: the contexts of places i to j are before row end, and
+-- `scan::past_tree` meets its contract. The invariant: the contexts of numbers i to j are before row end, and
 -- the last one is not. Assumes nothing.
 use mathlib.Core.Path.{_≡_, ap}
 use mathlib.Core.Logic.{⊎-elim}

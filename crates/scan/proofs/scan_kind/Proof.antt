@@ -1,4 +1,4 @@
--- `scan::scan_kind` meets its contract. The invariant: the rows of the first i places that pass are appended.
+-- `scan::scan_kind` meets its contract. The invariant: the first i rows that pass are appended.
 -- Assumes nothing.
 use mathlib.Core.Path.{_≡_}
 use mathlib.Core.Logic.{⊎-elim}
@@ -9,7 +9,7 @@ use borrow.Author.Tests.{eq-eqb, ne-eqb}
 use lib.Dec.{eqb}
 use lib.ListN.{length}
 use Rattle.tree.specs.Table.{at}
-use Rattle.scan.proofs.ScanLaws.{Scanning, scan-start, scan-length, scan-place, scan-yes, scan-no, scan-done}
+use Rattle.scan.proofs.ScanLaws.{Scanning, scan-start, scan-length, scan-index, scan-yes, scan-no, scan-done}
 use Rattle.scan.proofs.scan_kind.Statement.{statement}
 use Rattle.scan.proofs.scan_kind.Tie as tie
 
@@ -29,11 +29,11 @@ mul-if1 c = search needs
 shared-slice-read-if1 : tie.Need-shared-slice-read-if1 Inv-loop μ-loop
 shared-slice-read-if1 c = search needs
 
--- there is a place for a row that passes
+-- there is room for a row that passes
 free : (c : tie.Then1 Inv-loop μ-loop) → (let s = c .before .before .before in s .loop .next < length (s .loop .out))
 free c =
     let s = c .before .before .before in
-    scan-place (s .before .pre) (s .loop .inv) (c .before .before .loop-test .taken) (eq-eqb _ _ (c .if1 .taken))
+    scan-index (s .before .pre) (s .loop .inv) (c .before .before .loop-test .taken) (eq-eqb _ _ (c .if1 .taken))
 
 whole : (s : tie.At-loop Inv-loop μ-loop) → length (s .loop .out) ≡ length (s .before .args .out .now)
 whole s = scan-length (s .before .pre) (s .loop .inv)

@@ -1,4 +1,4 @@
--- `scan::scan_named` meets its contract. The invariant: the rows of the first i places that fit are appended.
+-- `scan::scan_named` meets its contract. The invariant: the first i rows that fit are appended.
 -- Assumes nothing.
 use mathlib.Core.Path.{_≡_, sym, _∙_}
 use mathlib.Core.Logic.{⊎-elim}
@@ -7,7 +7,7 @@ use native.Mathlib.Omega.{arith}
 use borrow.Author.Needs.{needs}
 use lib.ListN.{length}
 use Rattle.scan.specs.Want.{fits}
-use Rattle.scan.proofs.ScanLaws.{Scanning, scan-start, scan-length, scan-place, scan-yes, scan-no, scan-done}
+use Rattle.scan.proofs.ScanLaws.{Scanning, scan-start, scan-length, scan-index, scan-yes, scan-no, scan-done}
 use Rattle.scan.proofs.scan_named.Statement.{statement}
 use Rattle.scan.proofs.scan_named.Tie as tie
 
@@ -27,11 +27,11 @@ loop-holds c = scan-start
 fits-row-requires : tie.Need-fits-row-requires Inv-loop μ-loop
 fits-row-requires c κs = search needs
 
--- there is a place for a row that fits
+-- there is room for a row that fits
 free : (c : tie.Then1 Inv-loop μ-loop) → (let s = c .before .before .before in s .loop .next < length (s .loop .out))
 free c =
     let s = c .before .before .before in
-    scan-place (head s .pre .1) (s .loop .inv) (c .before .before .loop-test .taken)
+    scan-index (head s .pre .1) (s .loop .inv) (c .before .before .loop-test .taken)
     (sym (c .before .fits-row .ensures) ∙ c .if1 .taken)
 
 whole : (s : tie.At-loop Inv-loop μ-loop) → length (s .loop .out) ≡ length (head s .args .out .now)

@@ -1,4 +1,4 @@
--- `marks::mark::mark_earlier_siblings` meets its contract. The loop's invariant: what the contexts from place i on
+-- `marks::mark::mark_earlier_siblings` meets its contract. The loop's invariant: what the contexts from number i on
 -- reach is in. Assumes nothing.
 use Prim.Native.Nat.{_+_, _-_, _≤_}
 use mathlib.Core.Path.{_≡_}

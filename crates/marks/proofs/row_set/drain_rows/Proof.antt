@@ -11,7 +11,7 @@ use lib.ListN.{length}
 use Rattle.scan.specs.Want.{fits}
 use Rattle.marks.proofs.BitLaws.{lowest-less}
 use Rattle.marks.proofs.BitsLeftLaws.{left-high}
-use Rattle.marks.proofs.DrainLaws.{SetWalk, set-start, set-length, set-place, set-done}
+use Rattle.marks.proofs.DrainLaws.{SetWalk, set-start, set-length, set-index, set-done}
 use Rattle.marks.proofs.DrainLaws.{set-asks, set-sum, set-next}
 use Rattle.marks.proofs.row_set.drain_rows.Statement.{statement}
 use Rattle.marks.proofs.row_set.drain_rows.Tie as tie
@@ -33,7 +33,7 @@ whole : (s : tie.At-loop Inv-loop μ-loop)
 whole s = set-length (s .before .before .before .before .before .pre .1) (s .loop .inv)
 
 written : (s : tie.At-loop Inv-loop μ-loop) → s .loop .at ≤ length (s .loop .out)
-written s = set-place (s .before .before .before .before .before .pre .1) (s .loop .inv)
+written s = set-index (s .before .before .before .before .before .pre .1) (s .loop .inv)
 
 loop-holds : tie.Need-loop-holds Inv-loop μ-loop
 loop-holds c =

@@ -10,7 +10,7 @@ use lib.ListN.{length}
 use Rattle.scan.specs.Want.{fits}
 use Rattle.marks.proofs.BitLaws.{lowest-less}
 use Rattle.marks.proofs.BitsLeftLaws.{left-high, left-set}
-use Rattle.marks.proofs.WordLaws.{WordWalk, word-start, word-done, word-length, word-place, word-no, word-yes}
+use Rattle.marks.proofs.WordLaws.{WordWalk, word-start, word-done, word-length, word-index, word-no, word-yes}
 use Rattle.marks.proofs.row_set.drain_word.Statement.{statement}
 use Rattle.marks.proofs.row_set.drain_word.Tie as tie
 
@@ -37,7 +37,7 @@ written c =
     let t = c .before in
     let s = t .before .before in
     let room = s .before .before .before .before .pre .room in
-    word-place _ _ _ _ (s .loop .inv) room (t .before .loop-test .taken) (t .fits-row .ensures) (c .if1 .taken)
+    word-index _ _ _ _ (s .loop .inv) room (t .before .loop-test .taken) (t .fits-row .ensures) (c .if1 .taken)
 
 loop-holds : tie.Need-loop-holds Inv-loop μ-loop
 loop-holds c = word-start _ _ _ _ (c .before .before .before .fits .word .fits)

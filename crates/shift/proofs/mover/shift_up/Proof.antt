@@ -1,4 +1,4 @@
--- `shift::mover::shift_up` meets its contract. The first i rows are those by places further on, the others stand as
+-- `shift::mover::shift_up` meets its contract. The first i rows are those `by` rows further on, the others stand as
 -- they stood. Assumes nothing.
 use native.Mathlib.Omega.{arith}
 use Prim.Native.Nat.{_≤_, _-_}

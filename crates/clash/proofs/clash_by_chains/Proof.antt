@@ -1,9 +1,9 @@
--- `keys::clash_by_chains` meets its contract: columns of zeros serve, at each of the three sizes. Assumes nothing.
+-- `clash::clash_by_chains` meets its contract: columns of zeros serve, at each of the three sizes. Assumes nothing.
 use native.Mathlib.Omega.{arith}
 use Rattle.keys.proofs.KeyLaws.{cleared}
 use borrow.Author.Needs.{needs}
-use Rattle.keys.proofs.clash_by_chains.Statement.{statement}
-use Rattle.keys.proofs.clash_by_chains.Tie as tie
+use Rattle.clash.proofs.clash_by_chains.Statement.{statement}
+use Rattle.clash.proofs.clash_by_chains.Tie as tie
 
 slice-aggregate-clash-in : tie.Need-slice-aggregate-clash-in
 slice-aggregate-clash-in c = search needs

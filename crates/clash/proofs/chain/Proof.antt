@@ -1,14 +1,14 @@
--- `keys::chain` meets its contract: the first i rows are chained. Assumes nothing.
+-- `clash::chain` meets its contract: the first i rows are chained. Assumes nothing.
 use Prim.Native.Nat.{_≤_, _-_}
 use mathlib.Core.Path.{_≡_}
 use native.Mathlib.Nat.{le-antisymm}
 use native.Mathlib.Omega.{arith}
 use lib.ListN.{length, length-set}
 use Rattle.keys.specs.Chain.{Chained}
 use Rattle.keys.proofs.KeyLaws.{chained-more}
 use borrow.Author.Needs.{needs}
-use Rattle.keys.proofs.chain.Statement.{statement}
-use Rattle.keys.proofs.chain.Tie as tie
+use Rattle.clash.proofs.chain.Statement.{statement}
+use Rattle.clash.proofs.chain.Tie as tie
 
 abbrev Inv-loop : tie.InvT-loop
 Inv-loop key n heads₀ next₀ buckets i₀ heads next i =

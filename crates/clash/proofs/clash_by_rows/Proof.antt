@@ -1,4 +1,4 @@
--- `keys::clash_by_rows` meets its contract: no key of the rows below i is taken. Assumes nothing.
+-- `clash::clash_by_rows` meets its contract: no key of the rows below i is taken. Assumes nothing.
 use Prim.Native.Nat.{ℕ, _≤_, _<_, _-_}
 use mathlib.Core.Path.{_≡_, sym}
 use mathlib.Core.Bool.{false}
@@ -9,8 +9,8 @@ use Rattle.tree.specs.Table.{at}
 use Rattle.tree.specs.Sound.{rowOf}
 use Rattle.tree.proofs.SearchLaws.{least-at, least-end}
 use borrow.Author.Needs.{needs}
-use Rattle.keys.proofs.clash_by_rows.Statement.{statement}
-use Rattle.keys.proofs.clash_by_rows.Tie as tie
+use Rattle.clash.proofs.clash_by_rows.Statement.{statement}
+use Rattle.clash.proofs.clash_by_rows.Tie as tie
 
 abbrev Inv-loop : tie.InvT-loop
 Inv-loop key n piece m i₀ i = (i ≤ m) × ((j : ℕ) → j < i → ltb (rowOf key n (at piece j)) n ≡ false)

@@ -1,4 +1,4 @@
--- `keys::clash_in` meets its contract: all n rows are chained, and no key of the piece's rows below i is taken.
+-- `clash::clash_in` meets its contract: all n rows are chained, and no key of the piece's rows below i is taken.
 -- Assumes nothing.
 use Prim.Native.Nat.{ℕ, _≤_, _<_, _-_}
 use mathlib.Core.Path.{_≡_, sym, _∙_}
@@ -9,11 +9,11 @@ use borrow.Author.Tests.{not-true, not-false}
 use Rattle.tree.specs.Table.{at}
 use Rattle.tree.specs.Sound.{rowOf}
 use Rattle.tree.proofs.SearchLaws.{least-at, least-end}
 use Rattle.keys.specs.Chain.{ChainRoom, Chained}
-use Rattle.keys.proofs.KeyLaws.{clash-taken, clash-none}
+use Rattle.clash.proofs.ClashLaws.{clash-taken, clash-none}
 use borrow.Author.Needs.{needs}
-use Rattle.keys.proofs.clash_in.Statement.{statement}
-use Rattle.keys.proofs.clash_in.Tie as tie
+use Rattle.clash.proofs.clash_in.Statement.{statement}
+use Rattle.clash.proofs.clash_in.Tie as tie
 
 abbrev Inv-loop : tie.InvT-loop
 Inv-loop key n piece m heads next buckets i₀ i =

@@ -1,0 +1,101 @@
+// The least row of a piece whose key a table has, by the table's rows chained in buckets, as `keys` chains them.
+ghost use mathlib.Core.Path.{_≡_};
+ghost use Prim.Native.Nat.{_≤_};
+ghost use lib.ListN.{length};
+ghost use Rattle.keys.specs.Chain.{ChainRoom, Chained};
+ghost use Rattle.clash.specs.FirstClash.{firstClash};
+use keys::bucket;
+use keys::fresh;
+use keys::row_of;
+
+// Chains the first n rows, without a test of their keys.
+fn chain(key: &[usize], n: usize, heads: &mut [u16], next: &mut [u16], buckets: usize)
+    requires { ⌜ n ≤ length (now key) ⌝ }
+    requires { ⌜ ChainRoom (now heads) (now next) buckets n ⌝ }
+    requires { ⌜ Chained buckets (now key) (now heads) (now next) 0 ⌝ }
+    ensures { λ _. ⌜ Chained buckets (now (key .entry)) (now (heads .exit)) (now (next .exit)) n ⌝ }
+{
+    let mut i = 0;
+    while i < n {
+        let own = bucket(key[i], buckets);
+        next[i] = heads[own];
+        heads[own] = (i + 1) as u16;
+        i += 1;
+    }
+}
+
+// The least of the first m rows of a piece whose key one of the first n rows has, or m: a search for each key.
+fn clash_by_rows(key: &[usize], n: usize, piece: &[usize], m: usize) -> usize
+    requires { ⌜ n ≤ length (now key) ⌝ }
+    requires { ⌜ m ≤ length (now piece) ⌝ }
+    ensures { λ r. ⌜ r ≡ firstClash (now (key .entry)) n (now (piece .entry)) m ⌝ }
+{
+    let mut i = 0;
+    while i < m {
+        if row_of(key, n, piece[i]) < n {
+            return i;
+        }
+        i += 1;
+    }
+    i
+}
+
+// The same by the chains of the first n rows. No row is chained at first.
+fn clash_in(
+    key: &[usize],
+    n: usize,
+    piece: &[usize],
+    m: usize,
+    heads: &mut [u16],
+    next: &mut [u16],
+    buckets: usize,
+) -> usize
+    requires { ⌜ n ≤ length (now key) ⌝ }
+    requires { ⌜ m ≤ length (now piece) ⌝ }
+    requires { ⌜ ChainRoom (now heads) (now next) buckets n ⌝ }
+    requires { ⌜ Chained buckets (now key) (now heads) (now next) 0 ⌝ }
+    ensures { λ r. ⌜ r ≡ firstClash (now (key .entry)) n (now (piece .entry)) m ⌝ }
+{
+    chain(key, n, heads, next, buckets);
+    let mut i = 0;
+    while i < m {
+        if !fresh(key, n, piece[i], heads, next, buckets) {
+            return i;
+        }
+        i += 1;
+    }
+    i
+}
+
+// The same in columns of its own, as `keys::first_key` has them, in time linear in both.
+fn clash_by_chains(key: &[usize], n: usize, piece: &[usize], m: usize) -> usize
+    requires { ⌜ (n ≤ 4096) × (n ≤ length (now key)) ⌝ }
+    requires { ⌜ m ≤ length (now piece) ⌝ }
+    ensures { λ r. ⌜ r ≡ firstClash (now (key .entry)) n (now (piece .entry)) m ⌝ }
+{
+    if n <= 64 {
+        let mut heads = [0u16; 256];
+        let mut next = [0u16; 64];
+        return clash_in(key, n, piece, m, &mut heads, &mut next, 241);
+    }
+    if n <= 512 {
+        let mut heads = [0u16; 2048];
+        let mut next = [0u16; 512];
+        return clash_in(key, n, piece, m, &mut heads, &mut next, 2029);
+    }
+    let mut heads = [0u16; 16384];
+    let mut next = [0u16; 4096];
+    clash_in(key, n, piece, m, &mut heads, &mut next, 16381)
+}
+
+// The same by the way that is faster for the piece.
+pub fn first_clash(key: &[usize], n: usize, piece: &[usize], m: usize) -> usize
+    requires { ⌜ (n ≤ 4096) × (n ≤ length (now key)) ⌝ }
+    requires { ⌜ m ≤ length (now piece) ⌝ }
+    ensures { λ r. ⌜ r ≡ firstClash (now (key .entry)) n (now (piece .entry)) m ⌝ }
+{
+    if m <= 4 {
+        return clash_by_rows(key, n, piece, m);
+    }
+    clash_by_chains(key, n, piece, m)
+}
