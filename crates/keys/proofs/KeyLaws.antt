@@ -9,14 +9,14 @@ use Prim.Native.Nat.{ℕ, suc, _+_, _-_, _<_, _≤_}
 use native.Mathlib.Nat.{le-refl, le-of-suc-le-suc, eq-or-lt-of-le, not-suc-le-zero, mod-lt}
 use native.Mathlib.Numerals.{add-one}
 use native.Mathlib.Omega.{arith}
-use borrow.Author.Tests.{eqb-true, eqb-false, eq-eqb, ne-eqb, ltb-true, ltb-false, lt-ltb, le-ltb}
+use borrow.Author.Tests.{eqb-true, eqb-false, eq-eqb, ne-eqb, ltb-true, ltb-false}
 use lib.Dec.{eqb, ltb}
 use lib.ListN.{length, getD, set, replicate, getD-replicate, length-replicate}
 use lib.Seq.{getD-set-same, getD-set-other}
 use Rattle.tree.specs.Search.{least, nearest}
 use Rattle.tree.specs.Table.{at}
 use Rattle.tree.specs.Sound.{rowOf, keyOk}
-use Rattle.tree.proofs.SearchLaws.{least-none, least-le, least-hit-le, nearest-le, nearest-skip, nearest-in}
+use Rattle.tree.proofs.SearchLaws.{least-none, least-hit-le, nearest-le, nearest-skip, nearest-in}
 use Rattle.keys.specs.Chain.{bucketOf, lastIn, ChainRoom, Chained}
 
 module _ (buckets : ℕ) where

@@ -118,7 +118,7 @@ module _ {size level kind name up : List ℕ} {n : ℕ} {want : Want} {cs out : 
         ∙ gather-zero reached)
         (rows-same reached (childThat test level p) A E inside)
 
-    -- the end of the parent's descendants, as a row, and from the parent's place
+    -- the end of the parent's descendants, as a row, and from the parent's link
     pub first-end : (at up (at cs 0) - 1 + at size (at up (at cs 0) - 1) < n)
         × (at up (at cs 0) + at size (at up (at cs 0) - 1) ≡ at up (at cs 0) - 1 + at size (at up (at cs 0) - 1) + 1)
     first-end = (omega (arith, end-in), omega arith)

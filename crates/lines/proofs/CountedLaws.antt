@@ -17,7 +17,8 @@ use Rattle.runs.specs.Runs.{pairsFrom, runRows, RunEnd}
 use Rattle.runs.specs.StepReady.{StepReady}
 use Rattle.scan.proofs.WroteLaws.{wrote-length}
 use Rattle.runs.proofs.RunLaws.{roleRows, run-contexts}
-use Rattle.runs.proofs.StepRunLaws.{asked-parts, length-role, pairs-fit, step-at, step-end, row-most}
+use Rattle.tree.proofs.StepAccept.{asked-parts}
+use Rattle.runs.proofs.StepRunLaws.{length-role, pairs-fit, step-at, step-end, row-most}
 
 -- the lines before place i are counted
 pub record Counted (t : Table) (a : Ask) (role row words scratch : List ℕ) (total i : ℕ) : Type 0 where

@@ -145,7 +145,7 @@ half-lt k h = shr-lt k 1 (rw add-one h)
 abbrev lowestIn : ℕ → ℕ → ℕ → Type 0
 lowestIn k x b = (b < k) × LowestBit x b (bitAnd x (x - 1))
 
--- the number of zeros at the end of a word that is not 0 is the place of its lowest bit
+-- the number of zeros at the end of a word that is not 0 is the number of its lowest bit
 pub lowest-bit : (k x : ℕ) → x < 2 ^ k → (x ≡ 0 → ⊥)
     → (trailingZeros k x < k) × LowestBit x (trailingZeros k x) (bitAnd x (x - 1))
 unfolding trailingZeros

@@ -1,24 +1,18 @@
 -- The lines of a step that is ready, run by run: those of the run at a place, and those after it, `step-at`; past the
--- last pair none is left, `step-end`. What the step's checks say: `asked-parts`, `pairs-fit`. One role reaches at most
+-- last pair none is left, `step-end`. What the step's check of the pairs says: `pairs-fit`. One role reaches at most
 -- all rows, `row-most`, and has a line for each, `length-role`. Assumes nothing.
 use mathlib.Core.Path.{_≡_, refl, ap, _∙_}
-use mathlib.Core.Bool.{true}
 use mathlib.Core.List.{List, [], _∷_, _++_}
 use Prim.Native.Nat.{ℕ, suc, _≤_}
 use native.Mathlib.Nat.{le-trans}
-use borrow.Author.Tests.{not-false}
 use lib.ListN.{length, drop, drop-of-length-le}
 use Rattle.tree.specs.Table.{Table, at}
-use Rattle.tree.specs.Axis.{axisOk}
-use Rattle.tree.specs.Test.{testOk}
 use Rattle.tree.specs.Pairs.{pairsOf, withRole, distinct}
 use Rattle.tree.specs.declared.Ask.{Ask}
 use Rattle.tree.specs.Step.{stepList, linesOf}
 use Rattle.tree.specs.StepRules.{PairsFit}
-use Rattle.tree.specs.Refusal.{askCheck}
-use Rattle.tree.specs.declared.Checked.the-variants.{Passed}
 use Rattle.tree.proofs.SearchLaws.{gather-most}
-use Rattle.tree.proofs.SoundLaws.{next-passed, given-passed}
+use Rattle.tree.proofs.StepAccept.{asked-parts}
 use Rattle.tree.proofs.RoleLaws.{pair-passes}
 use Rattle.scan.specs.OneRole.{oneRole}
 use Rattle.runs.specs.Runs.{pairsFrom, runRows, RunEnd}
@@ -29,13 +23,6 @@ pub length-role : (r : ℕ) (cs : List ℕ) → length (withRole r cs) ≡ lengt
 unfolding withRole
 length-role r [] = refl
 length-role r (c ∷ cs) = ap suc (length-role r cs)
-
--- refusals 6 and 7 do not apply
-pub asked-parts : (a : Ask) → askCheck a ≡ Passed → (axisOk (a .axis) ≡ true) × (testOk (a .test) (a .name) ≡ true)
-unfolding askCheck
-asked-parts a e =
-    let p = next-passed _ _ .0 e in
-    (not-false _ (given-passed _ _ _ (p .0)), not-false _ (given-passed _ _ _ (p .1)))
 
 -- no pairs, no lines
 pub step-none : (t : Table) (a : Ask) → stepList t a [] ≡ []

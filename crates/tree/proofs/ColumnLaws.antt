@@ -2,7 +2,7 @@
 -- `opened-moves`, `closed-stays`, `closed-moves`; the rows that came in, `opened-new`, the freed ones, `closed-freed`,
 -- and the spare ones, `opened-spare`, `closed-spare`; what a row holds where sizes change: `changed-at`,
 -- `changed-not`, `changed-take`, `changed-after`. Rows in use and what follows them: `opened-is`, `closed-is`.
--- No column changes its length: `length-opened`, `length-closed`, `length-changed`. The part of a column from a place
+-- No column changes its length: `length-opened`, `length-closed`, `length-changed`. The part of a column from a row
 -- on, lent and back: `tail-mid`, `tail-put`. Assumes nothing.
 use mathlib.Core.Path.{_≡_, refl, sym, ap, ap₂, _∙_}
 use mathlib.Core.Bool.{Bool, false, cond}
@@ -17,15 +17,15 @@ use borrow.Rule.Slice.PartMut.{midOf, putMid}
 use Rattle.tree.specs.Table.{at}
 use Rattle.tree.specs.Edit.{opened, closed, changed}
 
--- what stands at n in two lists is what stands in the second at the place after the first
+-- what stands at n in two lists, one behind the other, where n is past the first
 at-past : (a b : List ℕ) (n i : ℕ) → length a + i ≡ n → at (a ++ b) n ≡ at b i
 at-past a b n i e = ap (at (a ++ b)) (sym e) ∙ getD-append-add a b i 0
 
--- what is left of a list after n, read at a place
+-- what is left of a list after n, read
 at-rest : (n : ℕ) (xs : List ℕ) (i : ℕ) → n ≤ i → at (drop n xs) (i - n) ≡ at xs i
 at-rest n xs i h = getD-drop n xs (i - n) 0 ∙ ap (at xs) (let z : n + (i - n) ≡ i = omega arith in z)
 
--- a part from g to n of a list of at least n, read at a place
+-- a part from g to n of a list of at least n, read
 at-part : (g n : ℕ) (xs ys : List ℕ) (i : ℕ) → g ≤ i → i < n → n ≤ length xs
     → at (take (n - g) (drop g xs) ++ ys) (i - g) ≡ at xs i
 at-part g n xs ys i h l m =

@@ -1,15 +1,17 @@
--- When a step is accepted, in plain words. Its last two checks: `ask-passes` for the codes, `room-passes` for room;
--- those before are `table-passes` (SoundLaws.antt) and `pair-passes` (RoleLaws.antt). All four: `step-passes`.
--- Assumes nothing.
+-- When a step is accepted, in plain words. Its last two checks: `ask-passes` for the codes (as tests: `asked-parts`),
+-- `room-passes` for room; those before are `table-passes` (SoundLaws.antt) and `pair-passes` (RoleLaws.antt). All
+-- four: `step-passes`. Assumes nothing.
 use mathlib.Core.Path.{_≡_, ap}
 use mathlib.Core.Logic.{_↔_}
-use mathlib.Core.Bool.{not}
+use mathlib.Core.Bool.{true, not}
 use mathlib.Core.List.{List}
 use Prim.Native.Nat.{ℕ, _≤_, min}
 use native.Mathlib.Omega.{arith}
 use borrow.Author.Tests.{ltb-false, le-ltb, not-false}
 use lib.ListN.{length}
 use Rattle.tree.specs.Table.{Table}
+use Rattle.tree.specs.Axis.{axisOk}
+use Rattle.tree.specs.Test.{testOk}
 use Rattle.tree.specs.Step.{Ask}
 use Rattle.tree.specs.StepRules.{TestRule, StepFits}
 use Rattle.tree.specs.Refusal.{askCheck, roomCheck}
@@ -19,15 +21,19 @@ use Rattle.tree.proofs.SoundLaws.{table-passes, next-passed, given-pass
 use Rattle.tree.proofs.RoleLaws.{pair-passes}
 use Rattle.tree.proofs.AskLaws.{axis-ok, test-ok}
 
--- refusals 6 and 7 do not apply exactly if the axis is 1 to 11 and the test has the name that it needs
+-- refusals 6 and 7 do not apply: both tests pass
+pub asked-parts : (a : Ask) → askCheck a ≡ Passed → (axisOk (a .axis) ≡ true) × (testOk (a .test) (a .name) ≡ true)
+unfolding askCheck
+asked-parts a e =
+    let p = next-passed _ _ .0 e in
+    (not-false _ (given-passed _ _ _ (p .0)), not-false _ (given-passed _ _ _ (p .1)))
+
+-- they do not exactly if the axis is 1 to 11 and the test has the name that it needs
 pub ask-passes : (a : Ask)
     → (askCheck a ≡ Passed) ↔ (((1 ≤ a .axis) × (a .axis ≤ 11)) × TestRule (a .test) (a .name))
 unfolding askCheck
 ask-passes a = (
-  λ e. let p = next-passed _ _ .0 e in (
-    axis-ok _ .0 (not-false _ (given-passed _ _ _ (p .0))),
-    test-ok _ _ .0 (not-false _ (given-passed _ _ _ (p .1))),
-  ),
+  λ e. let p = asked-parts a e in (axis-ok _ .0 (p .0), test-ok _ _ .0 (p .1)),
   λ h. next-passed _ _ .1 (
     given-not _ _ (ap not (axis-ok _ .1 (h .0))),
     given-not _ _ (ap not (test-ok _ _ .1 (h .1))),

@@ -1,4 +1,4 @@
--- A column that is turned round in place: what the turned list has at a place, `reverse-at`, and the loop that swaps
+-- A column that is turned round in place: what the turned list has at a number, `reverse-at`, and the loop that swaps
 -- the first and the last, the second and the one before the last, and so on: `round-start`, `round-next`, `round-done`.
 -- What was appended to a column, once it is turned round there: `appended-turned`. Assumes nothing.
 use Prim.Native.Nat.{ℕ, zero, suc, _+_, _-_, _<_, _≤_}
@@ -15,7 +15,7 @@ use Rattle.tree.specs.Outcome.{overwritten}
 use Rattle.tree.proofs.TreeLaws.{less?}
 use Rattle.scan.specs.Range.{Appended}
 
--- a place of the turned list, counted from the front, and one of the list, counted from the back
+-- an entry of the turned list, counted from the front, and one of the list, counted from the back
 pub reverse-at : (xs : List ℕ) (k m : ℕ) → suc (k + m) ≡ length xs → at (reverse xs) k ≡ at xs m
 reverse-at [] k m e = absurd (omega arith)
 reverse-at (x ∷ xs) k zero e =
@@ -26,7 +26,7 @@ reverse-at (x ∷ xs) k (suc m) e =
     ∙ List·getD-append (reverse xs) (x ∷ []) 0 k (omega (arith, length-reverse xs))
     ∙ reverse-at xs k m (omega arith)
 
--- the first i places of out, and those from j on, have what xs has as far from its other end; the others are as in xs
+-- the first i entries of out, and those from j on, have what xs has as far from its other end; the others are as in xs
 pub record Round (xs out : List ℕ) (i j : ℕ) : Type 0 where
   pub whole : length out ≡ length xs
   pub ends : i + j ≡ length xs
@@ -47,7 +47,7 @@ round-start xs = record {
 
 module _ {xs out : List ℕ} {i j : ℕ} (s : Round xs out i j) where
   module _ (b : ℕ) (e : j ≡ suc b) (l : i < b) where
-    -- with the two places swapped
+    -- with the two entries swapped
     abbrev new : List ℕ
     new = set (set out i (at out b)) b (at out i)
 

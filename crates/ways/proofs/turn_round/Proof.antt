@@ -1,4 +1,4 @@
--- `ways::turn_round` meets its contract. The loop's invariant, `Round`: the first i places and those from j on
+-- `ways::turn_round` meets its contract. The loop's invariant, `Round`: the first i entries and those from j on
 -- are turned, the others are not. Assumes nothing.
 use Prim.Native.Nat.{_-_}
 use native.Mathlib.Omega.{arith}

@@ -1,4 +1,4 @@
--- `marks::row_set::drain_word` meets its contract. The loop's invariant: for some place in the word, the rows before it
+-- `marks::row_set::drain_word` meets its contract. The loop's invariant: for some bit of the word, the rows before it
 -- that fit are written, and the rest has the word's bits from there on. The measure is the rest. Assumes nothing.
 use Prim.Native.Nat.{_<_}
 use mathlib.Core.Path.{_≡_}
