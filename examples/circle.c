@@ -39,7 +39,7 @@ static void print_pairs(const pairs *list, const char *verb)
 static void show(const char *when, const pairs *grants)
 {
     pairs reached;
-    reach_answer stepped = accepted(reach_step(FARM, HELD(grants), REACH_DESCENDANT, REACH_NAMED_ELEMENT, 4,
+    reach_answer stepped = accepted(reach_step(FARM, HELD(grants), REACH_AXIS_DESCENDANT, REACH_TEST_NAMED_ELEMENT, 4,
                                                COLUMN(reached.role), COLUMN(reached.row)));
     reached.length = stepped.first;
     printf("%s\n", when);

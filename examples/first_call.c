@@ -7,10 +7,11 @@
 int main(void)
 {
     /* A farm (name 1) of two turbines (2) with blades (3) that each have a setpoint (4), and a comment. */
+    enum { E = REACH_KIND_ELEMENT, C = REACH_KIND_COMMENT };
     const size_t key[] = {10, 20, 21, 22, 23, 24, 30, 31, 32, 40};
     const size_t size[] = {9, 4, 1, 0, 1, 0, 2, 1, 0, 0};
     const size_t level[] = {0, 1, 2, 3, 2, 3, 1, 2, 3, 1};
-    const size_t kind[] = {1, 1, 1, 1, 1, 1, 1, 1, 1, 3};
+    const size_t kind[] = {E, E, E, E, E, E, E, E, E, C};
     const size_t name[] = {1, 2, 3, 4, 3, 4, 2, 3, 4, 0};
 
     /* Role 5 holds the first turbine and one of its blades, role 7 the second turbine. */
@@ -20,7 +21,7 @@ int main(void)
 
     /* Which setpoints stand below what they hold? */
     reach_answer answer = reach_step(COLUMN(key), COLUMN(size), COLUMN(level), COLUMN(kind), COLUMN(name), 10,
-                                     COLUMN(role), COLUMN(row), REACH_DESCENDANT, REACH_NAMED_ELEMENT, 4,
+                                     COLUMN(role), COLUMN(row), REACH_AXIS_DESCENDANT, REACH_TEST_NAMED_ELEMENT, 4,
                                      COLUMN(out_role), COLUMN(out_row));
     if (answer.refusal != 0) {
         fprintf(stderr, "refusal %zu, place %zu\n", answer.refusal, answer.place);

@@ -39,7 +39,7 @@ static void print_pairs(const pairs *list, const char *verb)
 static void show(const char *when, const pairs *grants)
 {
     pairs reached;
-    reach_answer stepped = accepted(reach_step(FARMS, HELD(grants), REACH_FOLLOWING, REACH_NAMED_ELEMENT, 2,
+    reach_answer stepped = accepted(reach_step(FARMS, HELD(grants), REACH_AXIS_FOLLOWING, REACH_TEST_NAMED_ELEMENT, 2,
                                                COLUMN(reached.role), COLUMN(reached.row)));
     reached.length = stepped.first;
     printf("%s\n", when);

@@ -1,5 +1,6 @@
 //! A first call: which setpoints of a small farm do two roles reach?
 
+use reach::codes::{KIND_COMMENT as C, KIND_ELEMENT as E};
 use reach::{Axis, Pairs, Refusal, Results, Table, Test};
 
 fn main() -> Result<(), Refusal> {
@@ -8,7 +9,7 @@ fn main() -> Result<(), Refusal> {
         key: &[10, 20, 21, 22, 23, 24, 30, 31, 32, 40],
         size: &[9, 4, 1, 0, 1, 0, 2, 1, 0, 0],
         level: &[0, 1, 2, 3, 2, 3, 1, 2, 3, 1],
-        kind: &[1, 1, 1, 1, 1, 1, 1, 1, 1, 3],
+        kind: &[E, E, E, E, E, E, E, E, E, C],
         name: &[1, 2, 3, 4, 3, 4, 2, 3, 4, 0],
         count: 10,
     };

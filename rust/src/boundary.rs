@@ -1,5 +1,5 @@
 //! The library's own functions with bare numbers: every code can be posed, and every number of
-//! the answer can be seen.
+//! the answer can be seen. [`codes`](crate::codes) has their names.
 //!
 //! All `unsafe` code stands here. What a call needs, Rust's borrow rules already give: the
 //! pointer of a slice is never null, also at length 0, its elements stand in memory as one run,
@@ -13,6 +13,7 @@ use crate::{Pairs, Refusal, Results, Table, TableMut};
 /// two are 0.
 #[repr(C)]
 #[derive(Clone, Copy, Debug, Default, PartialEq, Eq)]
+#[non_exhaustive]
 pub struct Answer {
     /// The refusal's number, or 0 where the call is accepted.
     pub refusal: usize,
@@ -62,7 +63,7 @@ macro_rules! declare {
 
 declare! {
     fn reach_check(table: *const;);
-    fn reach_find(table: *const; wanted: usize);
+    fn reach_find(table: *const; key_wanted: usize);
     fn reach_step(
         table: *const;
         role: *const usize,
@@ -79,7 +80,7 @@ declare! {
     );
     fn reach_insert(
         table: *mut;
-        parent: usize,
+        parent_key: usize,
         p_key: *const usize,
         p_key_length: usize,
         p_size: *const usize,
@@ -92,11 +93,12 @@ declare! {
         p_name_length: usize,
         p_count: usize
     );
-    fn reach_delete(table: *mut; wanted: usize);
-    fn reach_rename(table: *mut; wanted: usize, new_name: usize);
+    fn reach_delete(table: *mut; key_wanted: usize);
+    fn reach_rename(table: *mut; key_wanted: usize, new_name: usize);
 }
 
 extern "C" {
+    fn reach_version() -> usize;
     fn reach_carry(
         role: *const usize,
         role_length: usize,
@@ -136,14 +138,21 @@ macro_rules! call {
     };
 }
 
+/// The version of the library that is linked, which is this wrapper's own,
+/// [`VERSION`](crate::codes::VERSION), unless the two come from two releases.
+pub fn version() -> usize {
+    // SAFETY: the function takes nothing and reads nothing.
+    unsafe { reach_version() }
+}
+
 /// Checks a table: refusals 1 and 2.
 pub fn check(table: Table<'_>) -> Answer {
     call!(reach_check, table, as_ptr)
 }
 
 /// Finds the row of a key: refusals 1, 2 and 9.
-pub fn find(table: Table<'_>, wanted: usize) -> Answer {
-    call!(reach_find, table, as_ptr, wanted)
+pub fn find(table: Table<'_>, key_wanted: usize) -> Answer {
+    call!(reach_find, table, as_ptr, key_wanted)
 }
 
 /// Takes a step with an axis code, a test code and a name: refusals 1 to 8.
@@ -173,13 +182,13 @@ pub fn step(
     )
 }
 
-/// Makes a piece the last child of the row with the key `parent`: refusals 1, 2 and 9 to 14.
-pub fn insert(table: &mut TableMut<'_>, parent: usize, piece: Table<'_>) -> Answer {
+/// Makes a piece the last child of the row with the key `parent_key`: refusals 1, 2 and 9 to 14.
+pub fn insert(table: &mut TableMut<'_>, parent_key: usize, piece: Table<'_>) -> Answer {
     call!(
         reach_insert,
         table,
         as_mut_ptr,
-        parent,
+        parent_key,
         piece.key.as_ptr(),
         piece.key.len(),
         piece.size.as_ptr(),
@@ -195,13 +204,13 @@ pub fn insert(table: &mut TableMut<'_>, parent: usize, piece: Table<'_>) -> Answ
 }
 
 /// Deletes the row with the key and its descendants: refusals 1, 2, 9 and 15.
-pub fn delete(table: &mut TableMut<'_>, wanted: usize) -> Answer {
-    call!(reach_delete, table, as_mut_ptr, wanted)
+pub fn delete(table: &mut TableMut<'_>, key_wanted: usize) -> Answer {
+    call!(reach_delete, table, as_mut_ptr, key_wanted)
 }
 
 /// Gives the row with the key another name: refusals 1, 2, 9 and 16.
-pub fn rename(table: &mut TableMut<'_>, wanted: usize, new_name: usize) -> Answer {
-    call!(reach_rename, table, as_mut_ptr, wanted, new_name)
+pub fn rename(table: &mut TableMut<'_>, key_wanted: usize, new_name: usize) -> Answer {
+    call!(reach_rename, table, as_mut_ptr, key_wanted, new_name)
 }
 
 /// Carries pairs over an edit of a table that had `old_count` rows, by the first moved row and the

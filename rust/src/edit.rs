@@ -3,21 +3,19 @@
 use crate::boundary::{self, Answer};
 use crate::{Refusal, Table};
 
-/// A node table that is lent to be changed. Spare rows, beyond the count, are the room that an
-/// insertion needs.
+/// A node table that is lent to be changed, with the columns of a [`Table`]. Spare rows, beyond the
+/// count, are the room that an insertion needs.
 #[derive(Debug, PartialEq, Eq)]
 pub struct TableMut<'a> {
-    /// Each row's key: not 0, and no two rows have the same.
+    /// Each row's key.
     pub key: &'a mut [usize],
     /// How many rows stand below each row.
     pub size: &'a mut [usize],
-    /// How deep each row stands: 0 for a root, otherwise at most one more than the row before, and
-    /// at most 63.
+    /// How deep each row stands.
     pub level: &'a mut [usize],
-    /// 0 document, which only a root can be, 1 element, 2 text, 3 comment, 4 processing
-    /// instruction. Only documents and elements have rows below them.
+    /// What each row is.
     pub kind: &'a mut [usize],
-    /// The name of an element or a processing instruction, otherwise 0.
+    /// The name of an element or a processing instruction.
     pub name: &'a mut [usize],
     /// How many rows are in use. An accepted edit sets it to the new count.
     pub count: usize,
@@ -26,6 +24,7 @@ pub struct TableMut<'a> {
 /// What an accepted edit answers. It is all that is needed to carry pairs over the edit:
 /// [`Pairs::carry`](crate::Pairs::carry).
 #[derive(Clone, Copy, Debug, PartialEq, Eq)]
+#[non_exhaustive]
 pub struct Edited {
     /// The new count of rows in use.
     pub count: usize,
@@ -34,6 +33,13 @@ pub struct Edited {
     /// By how many rows it moved, negative for a deletion, 0 for a rename. An edit at the very end,
     /// where no row moves, answers it too.
     pub moved: i64,
+}
+
+impl Edited {
+    /// What an edit answered, from numbers that were kept since.
+    pub fn new(count: usize, first_moved_row: usize, moved: i64) -> Edited {
+        Edited { count, first_moved_row, moved }
+    }
 }
 
 impl TableMut<'_> {
@@ -50,7 +56,7 @@ impl TableMut<'_> {
     }
 
     /// Makes a piece, which is a table of its own with one tree, the last child of the row with the
-    /// key `parent`. Levels of the piece rise to their new depth, sizes of the parent and its
+    /// key `parent_key`. Levels of the piece rise to their new depth, sizes of the parent and its
     /// ancestors by the piece's count, and later rows move down.
     ///
     /// What is inserted stands below a row, so this adds no root. A further farm comes in when its
@@ -72,7 +78,7 @@ impl TableMut<'_> {
     /// let piece =
     ///     Table { key: &[22], size: &[0], level: &[0], kind: &[1], name: &[4], count: 1 };
     /// let edited = table.insert(21, piece);
-    /// assert_eq!(edited, Ok(Edited { count: 4, first_moved_row: 2, moved: 1 }));
+    /// assert_eq!(edited, Ok(Edited::new(4, 2, 1)));
     /// assert_eq!(table.key, [20, 21, 22, 23]);
     /// assert_eq!(table.size, [3, 1, 0, 0]);
     /// assert_eq!(table.level, [0, 1, 2, 1]);
@@ -82,8 +88,8 @@ impl TableMut<'_> {
     ///
     /// [`Refusal::BadCount`], [`Refusal::UnsoundRow`], and [`Refusal::UnknownKey`] to
     /// [`Refusal::NoRoom`], numbers 9 to 14.
-    pub fn insert(&mut self, parent: usize, piece: Table<'_>) -> Result<Edited, Refusal> {
-        let answer = boundary::insert(self, parent, piece);
+    pub fn insert(&mut self, parent_key: usize, piece: Table<'_>) -> Result<Edited, Refusal> {
+        let answer = boundary::insert(self, parent_key, piece);
         self.edited(answer)
     }
 
@@ -101,7 +107,7 @@ impl TableMut<'_> {
     ///     name: &mut [2, 3, 4, 3],
     ///     count: 4,
     /// };
-    /// assert_eq!(table.delete(21), Ok(Edited { count: 2, first_moved_row: 3, moved: -2 }));
+    /// assert_eq!(table.delete(21), Ok(Edited::new(2, 3, -2)));
     /// assert_eq!(table.key, [20, 23, 0, 0]);
     /// assert_eq!(table.size, [1, 0, 0, 0]);
     /// // Key 20 is the only root.
@@ -112,8 +118,8 @@ impl TableMut<'_> {
     ///
     /// [`Refusal::BadCount`], [`Refusal::UnsoundRow`], [`Refusal::UnknownKey`] and
     /// [`Refusal::DeletesRoot`].
-    pub fn delete(&mut self, key: usize) -> Result<Edited, Refusal> {
-        let answer = boundary::delete(self, key);
+    pub fn delete(&mut self, key_wanted: usize) -> Result<Edited, Refusal> {
+        let answer = boundary::delete(self, key_wanted);
         self.edited(answer)
     }
 
@@ -140,8 +146,8 @@ impl TableMut<'_> {
     ///
     /// [`Refusal::BadCount`], [`Refusal::UnsoundRow`], [`Refusal::UnknownKey`] and
     /// [`Refusal::BadRename`].
-    pub fn rename(&mut self, key: usize, new_name: usize) -> Result<Edited, Refusal> {
-        let answer = boundary::rename(self, key, new_name);
+    pub fn rename(&mut self, key_wanted: usize, new_name: usize) -> Result<Edited, Refusal> {
+        let answer = boundary::rename(self, key_wanted, new_name);
         self.edited(answer)
     }
 
@@ -149,6 +155,6 @@ impl TableMut<'_> {
     fn edited(&mut self, answer: Answer) -> Result<Edited, Refusal> {
         let Answer { first, second, moved, .. } = answer.accepted()?;
         self.count = first;
-        Ok(Edited { count: first, first_moved_row: second, moved })
+        Ok(Edited::new(first, second, moved))
     }
 }

@@ -31,7 +31,7 @@
 //! farm that it starts in. A farm goes with its root, and the grants are carried as over any edit.
 //!
 //! ```
-//! use reach::{Axis, Pairs, Refusal, Results, Stepped, TableMut, Test};
+//! use reach::{Axis, Pairs, Refusal, Results, TableMut, Test};
 //!
 //! // Two farms (name 1) of two turbines each (name 2).
 //! let mut farms = TableMut {
@@ -49,7 +49,7 @@
 //! // What comes after them? In each farm its second turbine, and both grants count.
 //! let results = Results { role: &mut role, row: &mut row };
 //! let stepped = farms.as_table().step(grants, Axis::Following, Test::AnyNode, results)?;
-//! assert_eq!(stepped, Stepped { results: 2, kept: 2 });
+//! assert_eq!((stepped.results, stepped.kept), (2, 2));
 //! assert_eq!(row[..2], [2, 5]);
 //!
 //! // The first farm goes, and the grant on it. The other one now names row 1, still key 60.
@@ -65,6 +65,7 @@
 
 pub mod boundary;
 mod carry;
+pub mod codes;
 mod edit;
 pub mod farm;
 mod refusal;

@@ -1,10 +1,12 @@
 //! Why a call was refused.
 
+use crate::codes;
 use std::error::Error;
 use std::fmt;
 
 /// The seventeen reasons to refuse a call. Where several apply, the one of the lowest number is
-/// given, but number 17 before number 8; and every column that was lent is unchanged.
+/// given, but number 17 before number 8; and every column that was lent is unchanged. Later versions
+/// may have further reasons, so a `match` needs an arm for the rest.
 ///
 /// ```
 /// use reach::Refusal;
@@ -14,6 +16,7 @@ use std::fmt;
 /// assert!(refusal.to_string().starts_with("row 7 of the table is not sound"));
 /// ```
 #[derive(Clone, Copy, Debug, PartialEq, Eq, Hash)]
+#[non_exhaustive]
 pub enum Refusal {
     /// 1: the count of rows is 0, above 4,096, or above the shortest table column. In a carry it is
     /// the count before the edit, and there is no table column.
@@ -72,57 +75,61 @@ pub enum Refusal {
     /// 17: no edit answers these numbers: the first moved row is 0 or above the old count, or falls
     /// below 0 once the move is added, or the new count would lie outside 1 to 4,096.
     BadMove,
+    /// A number that this wrapper has no name for, since the library that is linked is newer.
+    Unlisted {
+        /// The refusal's number.
+        number: usize,
+        /// Its place, whatever that means for this number.
+        place: usize,
+    },
 }
 
 impl Refusal {
     /// The refusal that the library gives by number and place.
-    ///
-    /// # Panics
-    ///
-    /// On a number other than 1 to 17, which the library never answers.
     pub fn from_number(number: usize, place: usize) -> Refusal {
         match number {
-            1 => Refusal::BadCount,
-            2 => Refusal::UnsoundRow { row: place },
-            3 => Refusal::BadPairColumns,
-            4 => Refusal::PairOutOfOrder { place },
-            5 => Refusal::PairOutsideTable { place },
-            6 => Refusal::BadAxis,
-            7 => Refusal::BadTest,
-            8 => Refusal::TooManyResults { results: place },
-            9 => Refusal::UnknownKey,
-            10 => Refusal::BadPiece,
-            11 => Refusal::NotAParent { row: place },
-            12 => Refusal::TooDeep,
-            13 => Refusal::KeyTaken { piece_row: place },
-            14 => Refusal::NoRoom,
-            15 => Refusal::DeletesRoot,
-            16 => Refusal::BadRename { row: place },
-            17 => Refusal::BadMove,
-            _ => panic!("the library answered refusal {number}, which does not exist"),
+            codes::REFUSED_BAD_COUNT => Refusal::BadCount,
+            codes::REFUSED_UNSOUND_ROW => Refusal::UnsoundRow { row: place },
+            codes::REFUSED_BAD_PAIR_COLUMNS => Refusal::BadPairColumns,
+            codes::REFUSED_PAIR_OUT_OF_ORDER => Refusal::PairOutOfOrder { place },
+            codes::REFUSED_PAIR_OUTSIDE_TABLE => Refusal::PairOutsideTable { place },
+            codes::REFUSED_BAD_AXIS => Refusal::BadAxis,
+            codes::REFUSED_BAD_TEST => Refusal::BadTest,
+            codes::REFUSED_TOO_MANY_RESULTS => Refusal::TooManyResults { results: place },
+            codes::REFUSED_UNKNOWN_KEY => Refusal::UnknownKey,
+            codes::REFUSED_BAD_PIECE => Refusal::BadPiece,
+            codes::REFUSED_NOT_A_PARENT => Refusal::NotAParent { row: place },
+            codes::REFUSED_TOO_DEEP => Refusal::TooDeep,
+            codes::REFUSED_KEY_TAKEN => Refusal::KeyTaken { piece_row: place },
+            codes::REFUSED_NO_ROOM => Refusal::NoRoom,
+            codes::REFUSED_DELETES_ROOT => Refusal::DeletesRoot,
+            codes::REFUSED_BAD_RENAME => Refusal::BadRename { row: place },
+            codes::REFUSED_BAD_MOVE => Refusal::BadMove,
+            _ => Refusal::Unlisted { number, place },
         }
     }
 
-    /// The refusal's number, 1 to 17.
+    /// The refusal's number: one of [`codes`] unless the refusal is unlisted.
     pub fn number(self) -> usize {
         match self {
-            Refusal::BadCount => 1,
-            Refusal::UnsoundRow { .. } => 2,
-            Refusal::BadPairColumns => 3,
-            Refusal::PairOutOfOrder { .. } => 4,
-            Refusal::PairOutsideTable { .. } => 5,
-            Refusal::BadAxis => 6,
-            Refusal::BadTest => 7,
-            Refusal::TooManyResults { .. } => 8,
-            Refusal::UnknownKey => 9,
-            Refusal::BadPiece => 10,
-            Refusal::NotAParent { .. } => 11,
-            Refusal::TooDeep => 12,
-            Refusal::KeyTaken { .. } => 13,
-            Refusal::NoRoom => 14,
-            Refusal::DeletesRoot => 15,
-            Refusal::BadRename { .. } => 16,
-            Refusal::BadMove => 17,
+            Refusal::BadCount => codes::REFUSED_BAD_COUNT,
+            Refusal::UnsoundRow { .. } => codes::REFUSED_UNSOUND_ROW,
+            Refusal::BadPairColumns => codes::REFUSED_BAD_PAIR_COLUMNS,
+            Refusal::PairOutOfOrder { .. } => codes::REFUSED_PAIR_OUT_OF_ORDER,
+            Refusal::PairOutsideTable { .. } => codes::REFUSED_PAIR_OUTSIDE_TABLE,
+            Refusal::BadAxis => codes::REFUSED_BAD_AXIS,
+            Refusal::BadTest => codes::REFUSED_BAD_TEST,
+            Refusal::TooManyResults { .. } => codes::REFUSED_TOO_MANY_RESULTS,
+            Refusal::UnknownKey => codes::REFUSED_UNKNOWN_KEY,
+            Refusal::BadPiece => codes::REFUSED_BAD_PIECE,
+            Refusal::NotAParent { .. } => codes::REFUSED_NOT_A_PARENT,
+            Refusal::TooDeep => codes::REFUSED_TOO_DEEP,
+            Refusal::KeyTaken { .. } => codes::REFUSED_KEY_TAKEN,
+            Refusal::NoRoom => codes::REFUSED_NO_ROOM,
+            Refusal::DeletesRoot => codes::REFUSED_DELETES_ROOT,
+            Refusal::BadRename { .. } => codes::REFUSED_BAD_RENAME,
+            Refusal::BadMove => codes::REFUSED_BAD_MOVE,
+            Refusal::Unlisted { number, .. } => number,
         }
     }
 
@@ -132,7 +139,9 @@ impl Refusal {
             Refusal::UnsoundRow { row }
             | Refusal::NotAParent { row }
             | Refusal::BadRename { row } => row,
-            Refusal::PairOutOfOrder { place } | Refusal::PairOutsideTable { place } => place,
+            Refusal::PairOutOfOrder { place }
+            | Refusal::PairOutsideTable { place }
+            | Refusal::Unlisted { place, .. } => place,
             Refusal::TooManyResults { results } => results,
             Refusal::KeyTaken { piece_row } => piece_row,
             _ => 0,
@@ -198,6 +207,11 @@ impl fmt::Display for Refusal {
                  1 to the old count, still at least 0 once the move is added, and the new count is \
                  1 to 4,096",
             ),
+            Refusal::Unlisted { number, place } => write!(
+                out,
+                "the library refused the call with number {number}, place {place}, which this \
+                 wrapper has no name for: the library is newer"
+            ),
         }
     }
 }
@@ -207,6 +221,7 @@ impl Error for Refusal {}
 #[cfg(test)]
 mod tests {
     use super::Refusal;
+    use crate::boundary::Answer;
 
     #[test]
     fn numbers_and_places_come_back() {
@@ -215,7 +230,20 @@ mod tests {
             assert_eq!(refusal.number(), number);
             let has_place = [2, 4, 5, 8, 11, 13, 16].contains(&number);
             assert_eq!(refusal.place(), if has_place { 3 } else { 0 });
+            assert!(!matches!(refusal, Refusal::Unlisted { .. }));
             assert!(!refusal.to_string().is_empty());
         }
+    }
+
+    #[test]
+    fn a_number_without_a_name_is_a_refusal_too() {
+        for number in [0, 18, usize::MAX] {
+            let refusal = Refusal::from_number(number, 3);
+            assert_eq!(refusal, Refusal::Unlisted { number, place: 3 });
+            assert_eq!((refusal.number(), refusal.place()), (number, 3));
+            assert!(refusal.to_string().contains(&format!("number {number}, place 3")));
+        }
+        let newer = Answer { refusal: 18, place: 3, ..Answer::default() };
+        assert_eq!(newer.accepted(), Err(Refusal::Unlisted { number: 18, place: 3 }));
     }
 }

@@ -1,6 +1,6 @@
 //! One location step for many roles at once.
 
-use crate::boundary;
+use crate::{boundary, codes};
 use crate::{Refusal, Table};
 
 /// Pairs of role and row: each says that a role holds a row. They ascend by role, then row; in a
@@ -25,13 +25,12 @@ pub struct Results<'a> {
 
 /// What an accepted step answers.
 #[derive(Clone, Copy, Debug, PartialEq, Eq)]
+#[non_exhaustive]
 pub struct Stepped {
     /// The number of results.
     pub results: usize,
-    /// The number of distinct pairs that remain when redundant ones are dropped. A pair is redundant
-    /// when the same role holds, on axes 3 and 4, a row above it; on axes 6 and 7, a row below it.
-    /// On axes 8 and 9 one pair remains for each role and tree where it holds a row, on the other
-    /// axes all do. The test plays no part.
+    /// The kept count: how many distinct pairs remain when redundant ones are dropped, as
+    /// [`Table`] says.
     pub kept: usize,
 }
 
@@ -39,34 +38,36 @@ pub struct Stepped {
 /// in another farm is never a result. A code of another number can be posed to
 /// [`boundary::step`].
 #[derive(Clone, Copy, Debug, PartialEq, Eq, Hash)]
+#[non_exhaustive]
+#[repr(usize)]
 pub enum Axis {
     /// 1: the row itself.
-    Itself,
+    Itself = codes::AXIS_SELF,
     /// 2: the rows whose parent it is.
-    Child,
+    Child = codes::AXIS_CHILD,
     /// 3: the rows below it.
-    Descendant,
+    Descendant = codes::AXIS_DESCENDANT,
     /// 4: the row itself and the rows below it.
-    DescendantOrSelf,
+    DescendantOrSelf = codes::AXIS_DESCENDANT_OR_SELF,
     /// 5: its parent; a root has none.
-    Parent,
+    Parent = codes::AXIS_PARENT,
     /// 6: its parent, the parent of that one, and so on.
-    Ancestor,
+    Ancestor = codes::AXIS_ANCESTOR,
     /// 7: the row itself and its ancestors.
-    AncestorOrSelf,
+    AncestorOrSelf = codes::AXIS_ANCESTOR_OR_SELF,
     /// 8: the rows after it in its tree that are not below it.
-    Following,
+    Following = codes::AXIS_FOLLOWING,
     /// 9: the rows before it in its tree that are not its ancestors.
-    Preceding,
+    Preceding = codes::AXIS_PRECEDING,
     /// 10: the later rows with the same parent; a root has no siblings.
-    FollowingSibling,
+    FollowingSibling = codes::AXIS_FOLLOWING_SIBLING,
     /// 11: the earlier rows with the same parent; a root has no siblings.
-    PrecedingSibling,
+    PrecedingSibling = codes::AXIS_PRECEDING_SIBLING,
 }
 
 impl Axis {
     /// All axes, by ascending code.
-    pub const ALL: [Axis; 11] = [
+    pub const ALL: &'static [Axis] = &[
         Axis::Itself,
         Axis::Child,
         Axis::Descendant,
@@ -82,13 +83,14 @@ impl Axis {
 
     /// The axis code, 1 to 11.
     pub fn code(self) -> usize {
-        self as usize + 1
+        self as usize
     }
 }
 
 /// Which rows on the axis are results. A code of another number, or a name that doesn't fit, can
 /// be posed to [`boundary::step`].
 #[derive(Clone, Copy, Debug, PartialEq, Eq, Hash)]
+#[non_exhaustive]
 pub enum Test {
     /// 0: every row.
     AnyNode,
@@ -112,14 +114,14 @@ impl Test {
     /// The test code, 0 to 7.
     pub fn code(self) -> usize {
         match self {
-            Test::AnyNode => 0,
-            Test::AnyElement => 1,
-            Test::Element(_) => 2,
-            Test::Text => 3,
-            Test::Comment => 4,
-            Test::AnyInstruction => 5,
-            Test::Instruction(_) => 6,
-            Test::Document => 7,
+            Test::AnyNode => codes::TEST_ANY_NODE,
+            Test::AnyElement => codes::TEST_ANY_ELEMENT,
+            Test::Element(_) => codes::TEST_NAMED_ELEMENT,
+            Test::Text => codes::TEST_TEXT,
+            Test::Comment => codes::TEST_COMMENT,
+            Test::AnyInstruction => codes::TEST_ANY_INSTRUCTION,
+            Test::Instruction(_) => codes::TEST_NAMED_INSTRUCTION,
+            Test::Document => codes::TEST_DOCUMENT,
         }
     }
 
@@ -137,7 +139,7 @@ impl Table<'_> {
     /// Results ascend by role, then row; places beyond them stay as they are.
     ///
     /// ```
-    /// use reach::{farm, Axis, Pairs, Refusal, Results, Stepped, Test};
+    /// use reach::{farm, Axis, Pairs, Refusal, Results, Test};
     ///
     /// // Role 5 holds the first turbine and one of its blades, role 7 the second turbine.
     /// let pairs = Pairs { role: &[5, 5, 7], row: &[1, 2, 6] };
@@ -145,14 +147,15 @@ impl Table<'_> {
     /// let results = Results { role: &mut role, row: &mut row };
     ///
     /// // Which setpoints (name 4) do they reach?
-    /// let stepped = farm::table().step(pairs, Axis::Descendant, Test::Element(4), results);
-    /// assert_eq!(stepped, Ok(Stepped { results: 3, kept: 2 }));
+    /// let stepped = farm::table().step(pairs, Axis::Descendant, Test::Element(4), results)?;
+    /// assert_eq!((stepped.results, stepped.kept), (3, 2));
     /// assert_eq!((role, row), ([5, 5, 7, 0], [3, 5, 8, 0]));
     ///
     /// // With too little room nothing is written, and the refusal says how much is needed.
     /// let short = Results { role: &mut role[..2], row: &mut row[..2] };
     /// let stepped = farm::table().step(pairs, Axis::Descendant, Test::Element(4), short);
     /// assert_eq!(stepped, Err(Refusal::TooManyResults { results: 3 }));
+    /// # Ok::<(), Refusal>(())
     /// ```
     ///
     /// # Errors

@@ -5,30 +5,40 @@ use crate::Refusal;
 
 /// A node table that is lent to be read: five columns, and how many rows are in use.
 ///
-/// Row numbers start from 0 and follow document order. A row of level 0 is a root: it starts a tree,
-/// which goes on to the next root, so one table holds one farm or several. A longer column has spare
-/// rows, which are never read.
+/// Row numbers start from 0 and follow document order. A longer column has spare rows, which are
+/// never read. The table is sound when each row in use is:
+///
+/// - level: how deep the row stands. 0 in row 0, in a later row from 0 to one more than in the row
+///   before, at most 63. A row of level 0 is a root: it starts a tree, which goes on to the next root.
+/// - size: how many rows stand below it, which are those directly after it, without a break, whose
+///   level is greater than its own.
+/// - kind: 0 to 4, as [`codes`](crate::codes) names them. A document is a root; texts, comments and
+///   processing instructions have size 0.
+/// - name: not 0 for an element or a processing instruction, otherwise 0.
+/// - key: not 0, and unlike the key of every earlier row, whatever the tree.
+///
+/// Of the pairs of a [step](Table::step) those are *kept* that remain when equal ones count once and
+/// redundant ones are dropped, whatever the test: on axes 3 and 4 a pair is redundant when the same
+/// role holds a row above it, on axes 6 and 7 when it holds a row below it; on axes 8 and 9 one pair
+/// remains for each role and tree where it holds a row; on the other axes none is redundant.
 #[derive(Clone, Copy, Debug, PartialEq, Eq)]
 pub struct Table<'a> {
-    /// Each row's key: not 0, and no two rows have the same.
+    /// Each row's key.
     pub key: &'a [usize],
     /// How many rows stand below each row.
     pub size: &'a [usize],
-    /// How deep each row stands: 0 for a root, otherwise at most one more than the row before, and
-    /// at most 63.
+    /// How deep each row stands.
     pub level: &'a [usize],
-    /// 0 document, which only a root can be, 1 element, 2 text, 3 comment, 4 processing
-    /// instruction. Only documents and elements have rows below them.
+    /// What each row is: [`KIND_DOCUMENT`](crate::codes::KIND_DOCUMENT) and the like.
     pub kind: &'a [usize],
-    /// The name of an element or a processing instruction, otherwise 0.
+    /// The name of an element or a processing instruction.
     pub name: &'a [usize],
     /// How many rows are in use: 1 to 4,096.
     pub count: usize,
 }
 
 impl Table<'_> {
-    /// Checks that the table is sound: that each row keeps to what its five columns say above, and
-    /// row 0 is a root. Every other call does the same first.
+    /// Checks that the table is sound. Every other call does the same first.
     ///
     /// ```
     /// use reach::{farm, Refusal, Table};
@@ -60,7 +70,7 @@ impl Table<'_> {
     /// # Errors
     ///
     /// [`Refusal::BadCount`], [`Refusal::UnsoundRow`] and [`Refusal::UnknownKey`].
-    pub fn find(self, key: usize) -> Result<usize, Refusal> {
-        boundary::find(self, key).accepted().map(|answer| answer.first)
+    pub fn find(self, key_wanted: usize) -> Result<usize, Refusal> {
+        boundary::find(self, key_wanted).accepted().map(|answer| answer.first)
     }
 }

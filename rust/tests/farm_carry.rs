@@ -44,13 +44,13 @@ fn grants_keep_their_keys_over_the_stated_edits() {
 #[test]
 fn equal_pairs_stay_equal() {
     let pairs = Pairs { role: &[5, 5, 5, 7], row: &[2, 4, 4, 4] };
-    let deleted = Edited { count: 8, first_moved_row: 4, moved: -2 };
+    let deleted = Edited::new(8, 4, -2);
     assert_eq!(carried(pairs, deleted), Ok(vec![(5, 2), (5, 2), (7, 2)]));
 }
 
 #[test]
 fn a_refused_carry_writes_nothing() {
-    let deleted = Edited { count: 8, first_moved_row: 4, moved: -2 };
+    let deleted = Edited::new(8, 4, -2);
     let (mut role, mut row) = ([1; 3], [1; 1]);
     let results = Results { role: &mut role, row: &mut row };
     let refused = PAIRS.carry(&deleted, results);
@@ -66,7 +66,7 @@ fn a_refused_carry_writes_nothing() {
 #[test]
 fn numbers_that_no_edit_answers_are_refused() {
     let refusal = |count: usize, first_moved_row: usize, moved: i64| {
-        carried(PAIRS, Edited { count, first_moved_row, moved }).unwrap_err()
+        carried(PAIRS, Edited::new(count, first_moved_row, moved)).unwrap_err()
     };
     for (first_moved_row, moved) in [(0, -2), (11, -2), (1, -2), (usize::MAX, -2), (10, -10)] {
         let count = 10_usize.checked_add_signed(moved).unwrap();

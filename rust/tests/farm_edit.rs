@@ -10,10 +10,10 @@ fn the_stated_deletion_and_insertion_in_either_order() {
     let (mut one, mut other) = (Farm::new(), Farm::new());
     let (mut one, mut other) = (one.lent(), other.lent());
     let deleted = one.delete(21);
-    assert_eq!(deleted, Ok(Edited { count: 8, first_moved_row: 4, moved: -2 }));
+    assert_eq!(deleted, Ok(Edited::new(8, 4, -2)));
     assert_eq!(one.size[..2], [7, 2]);
     let inserted = other.insert(31, SETPOINT);
-    assert_eq!(inserted, Ok(Edited { count: 11, first_moved_row: 9, moved: 1 }));
+    assert_eq!(inserted, Ok(Edited::new(11, 9, 1)));
     assert_eq!((other.level[9], other.size[0], other.size[6], other.size[7]), (3, 10, 3, 2));
 
     one.insert(31, SETPOINT).unwrap();
@@ -31,7 +31,7 @@ fn a_rename_moves_nothing() {
     let mut farm = Farm::new();
     let mut table = farm.lent();
     let renamed = table.rename(31, 8);
-    assert_eq!(renamed, Ok(Edited { count: 10, first_moved_row: 10, moved: 0 }));
+    assert_eq!(renamed, Ok(Edited::new(10, 10, 0)));
     assert_eq!(table.name[7], 8);
 }
 

@@ -8,7 +8,7 @@ const PAIRS: Pairs<'static> = Pairs { role: &[5, 5, 7], row: &[1, 2, 6] };
 fn step(axis: Axis, test: Test) -> (Vec<(usize, usize)>, usize) {
     let (mut role, mut row) = ([0; 20], [0; 20]);
     let results = Results { role: &mut role, row: &mut row };
-    let Stepped { results, kept } = farm::table().step(PAIRS, axis, test, results).unwrap();
+    let Stepped { results, kept, .. } = farm::table().step(PAIRS, axis, test, results).unwrap();
     (role.into_iter().zip(row).take(results).collect(), kept)
 }
 
@@ -31,7 +31,7 @@ fn the_stated_steps() {
 
 #[test]
 fn every_axis_and_test_has_its_code() {
-    for (place, axis) in Axis::ALL.into_iter().enumerate() {
+    for (place, axis) in Axis::ALL.iter().enumerate() {
         assert_eq!(axis.code(), place + 1);
     }
     let tests = [

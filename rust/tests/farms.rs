@@ -34,7 +34,7 @@ fn step(axis: Axis, grants: Pairs<'_>) -> (Vec<(usize, usize)>, usize) {
     let (mut farms, mut role, mut row) = (Farms::new(), [0; 16], [0; 16]);
     let results = Results { role: &mut role, row: &mut row };
     let stepped = farms.lent().as_table().step(grants, axis, Test::AnyNode, results);
-    let Stepped { results, kept } = stepped.unwrap();
+    let Stepped { results, kept, .. } = stepped.unwrap();
     (role.into_iter().zip(row).take(results).collect(), kept)
 }
 
@@ -63,7 +63,7 @@ fn a_farm_goes_with_its_root_and_grants_are_carried() {
     let (mut farms, mut role, mut row) = (Farms::new(), [0; 6], [0; 6]);
     let mut table = farms.lent();
     let deleted = table.delete(10).unwrap();
-    assert_eq!(deleted, Edited { count: 3, first_moved_row: 4, moved: -4 });
+    assert_eq!(deleted, Edited::new(3, 4, -4));
     let results = Results { role: &mut role, row: &mut row };
     assert_eq!(GRANTS.carry(&deleted, results), Ok(4));
     assert_eq!((role[..4].to_vec(), row[..4].to_vec()), (vec![5, 7, 7, 7], vec![1, 0, 1, 2]));
@@ -78,7 +78,7 @@ fn a_farm_goes_with_its_root_and_grants_are_carried() {
 fn the_last_farm_of_two_goes_too() {
     let mut farms = Farms::new();
     let mut table = farms.lent();
-    assert_eq!(table.delete(50), Ok(Edited { count: 4, first_moved_row: 7, moved: -3 }));
+    assert_eq!(table.delete(50), Ok(Edited::new(4, 7, -3)));
     assert_eq!(table.delete(10), Err(Refusal::DeletesRoot));
 }
 
@@ -99,7 +99,7 @@ fn a_piece_is_one_tree() {
     // Its first row alone is a piece, and goes into the farm of its parent.
     let one = Table { count: 1, ..two };
     let inserted = farms.lent().insert(20, one);
-    assert_eq!(inserted, Ok(Edited { count: 8, first_moved_row: 3, moved: 1 }));
+    assert_eq!(inserted, Ok(Edited::new(8, 3, 1)));
     assert_eq!(farms.columns[0], [10, 20, 22, 80, 30, 50, 60, 70]);
     assert_eq!(farms.columns[1], [4, 2, 0, 0, 0, 2, 0, 0]);
 }

@@ -56,7 +56,7 @@ fn a_step_fits_counted_and_written() {
     let (role, row) = a_role_for_each_row();
     let (mut out_role, mut out_row) = (vec![0; ROWS], vec![0; ROWS]);
     on_a_small_stack(move || {
-        for axis in Axis::ALL {
+        for &axis in Axis::ALL {
             let pairs = Pairs { role: &role, row: &row };
             let results = Results { role: &mut out_role, row: &mut out_row };
             // Where the results don't fit they are counted, which needs as much.
@@ -81,8 +81,8 @@ fn edits_fit() {
 fn a_carry_fits() {
     let (role, row) = a_role_for_each_row();
     let (mut out_role, mut out_row) = (vec![0; ROWS], vec![0; ROWS]);
-    let deleted = Edited { count: ROWS - 1_000, first_moved_row: 1_001, moved: -1_000 };
-    let renamed = Edited { count: ROWS, first_moved_row: ROWS, moved: 0 };
+    let deleted = Edited::new(ROWS - 1_000, 1_001, -1_000);
+    let renamed = Edited::new(ROWS, ROWS, 0);
     on_a_small_stack(move || {
         for edited in [deleted, renamed] {
             let results = Results { role: &mut out_role, row: &mut out_row };

@@ -1,6 +1,6 @@
--- Spare rows are never read by an edit: 01, "The table". On two tables whose rows in use are the same, with the same
--- room, an edit gets the same answer and leaves the same rows in use: `in-use-edit`. Two pieces whose rows in use are
--- the same leave the same when they are inserted, spare rows too: `in-use-piece`. Assumes nothing.
+-- Spare rows are never read by an edit: RULES 01, "The table". On two tables whose rows in use are the same, with the
+-- same room, an edit gets the same answer and leaves the same rows in use: `in-use-edit`. Two pieces whose rows in use
+-- are the same leave the same when they are inserted, spare rows too: `in-use-piece`. Assumes nothing.
 use mathlib.Core.Path.{_≡_, refl, sym, ap, ap₂, _∙_}
 use mathlib.Core.Bool.{Bool, true, false, not, _&&_}
 use mathlib.Core.List.{List, _∷_}

@@ -1,5 +1,5 @@
--- An edit as one thing: 01, "Finding and editing by key". Its outcome, when it is accepted, what it names and brings.
--- Assumes nothing.
+-- An edit as one thing: RULES 01, "Finding and editing by key". Its outcome, when it is accepted, what it names and
+-- brings. Assumes nothing.
 use Prim.Native.Nat.{ℕ}
 use mathlib.Core.Path.{_≡_}
 use mathlib.Core.List.{List, []}

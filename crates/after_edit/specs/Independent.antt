@@ -1,6 +1,6 @@
--- Demand 3, as 02, E2 amends it: when two edits of one table may be done in either order. What is the same afterwards
--- is `SameRows` (tree/specs/Table.antt). The theorem is `either-order` (proofs/EitherOrder.antt); why two deletions of
--- roots are left out, `roots-refused` (proofs/FarmPair.antt). Assumes nothing.
+-- Demand 3, as RULES 02, E2 amends it: when two edits of one table may be done in either order. What is the same
+-- afterwards is `SameRows` (tree/specs/Table.antt). The theorem is `either-order` (proofs/EitherOrder.antt); why two
+-- deletions of roots are left out, `roots-refused` (proofs/FarmPair.antt). Assumes nothing.
 use Prim.Native.Nat.{ℕ, _+_, _≤_, _<_}
 use mathlib.Core.Path.{_≡_}
 use mathlib.Core.Bool.{false}
@@ -24,7 +24,7 @@ pub record Independent (a b : Act) (t : Table) : Type 0 where
   pub rows-differ : rowNamed a t ≡ rowNamed b t → ⊥
   pub a-not-above : ancestor (t .level) (rowNamed a t) (rowNamed b t) ≡ false
   pub b-not-above : ancestor (t .level) (rowNamed b t) (rowNamed a t) ≡ false
-  -- 02, E2: they are not two deletions that both name roots
+  -- RULES 02, E2: they are not two deletions that both name roots
   pub one-root : DeletesRoot a t → DeletesRoot b t → ⊥
   -- no key is in both pieces
   pub keys-differ : (i j : ℕ) → i < brings a → j < brings b → at (newKeys a) i ≡ at (newKeys b) j → ⊥

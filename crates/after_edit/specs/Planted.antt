@@ -1,4 +1,4 @@
--- Where an inserted piece stands: 01, "Finding and editing by key": it becomes the parent's last child.
+-- Where an inserted piece stands: RULES 01, "Finding and editing by key": it becomes the parent's last child.
 -- That it does is `piece-there` and `last-child` (proofs/PlantedLaws.antt). Assumes nothing.
 use Prim.Native.Nat.{ℕ, suc, _+_, _<_}
 use mathlib.Core.Path.{_≡_}

@@ -1,6 +1,6 @@
--- What the columns hold beyond the rows in use after an accepted edit: 01, "Finding and editing by key", on spare and
--- freed rows. That they do is `spare-stays`, `freed-zero`, `lengths-stay` (proofs/SpareLaws.antt). That an edit does
--- not read them, where the room is the same, is `in-use-edit` (proofs/InUseLaws.antt). Assumes nothing.
+-- What the columns hold beyond the rows in use after an accepted edit: RULES 01, "Finding and editing by key", on spare
+-- and freed rows. That they do is `spare-stays`, `freed-zero`, `lengths-stay` (proofs/SpareLaws.antt). That an edit
+-- does not read them, where the room is the same, is `in-use-edit` (proofs/InUseLaws.antt). Assumes nothing.
 use Prim.Native.Nat.{ℕ}
 use mathlib.Core.Path.{_≡_}
 use lib.ListN.{length}

@@ -1,4 +1,4 @@
--- Where a row stands after an accepted edit, and what it holds: 01, "Finding and editing by key".
+-- Where a row stands after an accepted edit, and what it holds: RULES 01, "Finding and editing by key".
 -- That every row that stays is found so is `row-again` and `found-again` (proofs/FoundAgain.antt); that the others are
 -- not found is `gone` (proofs/GoneLaws.antt). Assumes nothing.
 use Prim.Native.Nat.{ℕ, _<_}

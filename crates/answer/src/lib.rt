@@ -1,7 +1,9 @@
-// The library's answers as one struct for C. Refusal 0 is acceptance; what an answer does not use is 0.
+// The library's answers as one struct for C, and its version. Refusal 0 is acceptance; what an answer does not use is
+// 0.
 ghost use mathlib.Core.Path.{_≡_};
 ghost use Rattle.answer.specs.Answer.{accepted, refused, checkAnswer, findAnswer, stepAnswer, editAnswer};
 ghost use Rattle.answer.specs.Answer.{carryAnswer};
+ghost use Rattle.answer.specs.Version.{version};
 use tree::Carried;
 use tree::Checked;
 use tree::Edited;
@@ -91,4 +93,11 @@ pub fn of_carry(carried: Carried) -> Answer
         Carried::Written(pairs) => accept(pairs, 0, 0),
         Carried::Refused(number, place) => refuse(number, place),
     }
+}
+
+// Which version of the library this is.
+pub fn library_version() -> usize
+    ensures { λ r. ⌜ r ≡ version ⌝ }
+{
+    400
 }

@@ -1,4 +1,4 @@
-// The codes of a step: document 01, refusals 6 and 7.
+// The codes of a step: RULES 01, refusals 6 and 7.
 ghost use mathlib.Core.Path.{_≡_};
 ghost use Rattle.tree.specs.Axis.{axisOk};
 ghost use Rattle.tree.specs.Test.{testOk};

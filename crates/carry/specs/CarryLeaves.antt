@@ -1,4 +1,4 @@
--- What carrying leaves: its answer and both result columns are those of the outcome that document 02 defines.
+-- What carrying leaves: its answer and both result columns are those of the outcome that RULES 02 defines.
 -- Assumes nothing.
 use mathlib.Core.Path.{_≡_}
 use mathlib.Core.List.{List}

@@ -1,4 +1,4 @@
-// Pairs of role and row carried over an edit, so that each names the same key as before: document 02, E1. Nothing is
+// Pairs of role and row carried over an edit, so that each names the same key as before: RULES 02, E1. Nothing is
 // written before it is known that all of it fits.
 ghost use Rattle.tree.specs.Carry.{carryOutcome};
 ghost use Rattle.carry.specs.CarryLeaves.{CarryLeaves};

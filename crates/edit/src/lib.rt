@@ -1,4 +1,4 @@
-// Insertion, deletion and rename by key: document 01, "Finding and editing by key". Each call finds the row of its key
+// Insertion, deletion and rename by key: RULES 01, "Finding and editing by key". Each call finds the row of its key
 // in the table, which checks it, and hands over to the edit at that row; a refusal leaves all columns as they were.
 ghost use mathlib.Core.Path.{_≡_};
 ghost use Rattle.tree.specs.Table.{tableOf};
@@ -29,7 +29,7 @@ pub fn insert(
     kind: &mut [usize],
     name: &mut [usize],
     count: usize,
-    parent: usize,
+    parent_key: usize,
     p_key: &[usize],
     p_size: &[usize],
     p_level: &[usize],
@@ -39,12 +39,12 @@ pub fn insert(
 ) -> Edited
     ensures { λ r. ⌜ EditLeaves (insertOutcome
         (tableOf (now (key .entry)) (now (size .entry)) (now (level .entry)) (now (kind .entry))
-        (now (name .entry)) count) parent
+        (now (name .entry)) count) «parent_key»
         (tableOf (now («p_key» .entry)) (now («p_size» .entry)) (now («p_level» .entry)) (now («p_kind» .entry))
         (now («p_name» .entry)) «p_count»)) r
         (now (key .exit)) (now (size .exit)) (now (level .exit)) (now (kind .exit)) (now (name .exit)) ⌝ }
 {
-    let found = table::find(key, size, level, kind, name, count, parent);
+    let found = table::find(key, size, level, kind, name, count, parent_key);
     let Found::At(row) = found else {
         return refused(found);
     };
@@ -73,14 +73,14 @@ pub fn delete(
     kind: &mut [usize],
     name: &mut [usize],
     count: usize,
-    wanted: usize,
+    key_wanted: usize,
 ) -> Edited
     ensures { λ r. ⌜ EditLeaves (deleteOutcome
         (tableOf (now (key .entry)) (now (size .entry)) (now (level .entry)) (now (kind .entry))
-        (now (name .entry)) count) wanted) r
+        (now (name .entry)) count) «key_wanted») r
         (now (key .exit)) (now (size .exit)) (now (level .exit)) (now (kind .exit)) (now (name .exit)) ⌝ }
 {
-    let found = table::find(key, size, level, kind, name, count, wanted);
+    let found = table::find(key, size, level, kind, name, count, key_wanted);
     let Found::At(row) = found else {
         return refused(found);
     };
@@ -95,15 +95,15 @@ pub fn rename(
     kind: &mut [usize],
     name: &mut [usize],
     count: usize,
-    wanted: usize,
+    key_wanted: usize,
     new_name: usize,
 ) -> Edited
     ensures { λ r. ⌜ EditLeaves (renameOutcome
         (tableOf (now (key .entry)) (now (size .entry)) (now (level .entry)) (now (kind .entry))
-        (now (name .entry)) count) wanted «new_name») r
+        (now (name .entry)) count) «key_wanted» «new_name») r
         (now (key .exit)) (now (size .exit)) (now (level .exit)) (now (kind .exit)) (now (name .exit)) ⌝ }
 {
-    let found = table::find(key, size, level, kind, name, count, wanted);
+    let found = table::find(key, size, level, kind, name, count, key_wanted);
     let Found::At(row) = found else {
         return refused(found);
     };

@@ -1,4 +1,4 @@
-// A deletion at a row: document 01, "Finding and editing by key"; refusal 15.
+// A deletion at a row: RULES 01, "Finding and editing by key"; refusal 15.
 ghost use Rattle.tree.specs.Table.{tableOf};
 ghost use Rattle.edit_at.specs.EditLeaves.{EditLeaves};
 ghost use Rattle.table.specs.RowFound.{RowFound};

@@ -1,4 +1,4 @@
-// Deletion and rename at a known row of a sound table: document 01, "Finding and editing by key". A refusal leaves all
+// Deletion and rename at a known row of a sound table: RULES 01, "Finding and editing by key". A refusal leaves all
 // columns as they were.
 
 pub mod renaming; // renaming.rt: a rename at a row

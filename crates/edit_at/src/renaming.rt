@@ -1,4 +1,4 @@
-// A rename at a row: document 01, "Finding and editing by key"; refusal 16.
+// A rename at a row: RULES 01, "Finding and editing by key"; refusal 16.
 ghost use mathlib.Core.Path.{_≡_};
 ghost use mathlib.Core.Bool.{not, _||_};
 ghost use lib.Dec.{eqb};

@@ -1,4 +1,4 @@
-// An insertion at a row: document 01, "Finding and editing by key".
+// An insertion at a row: RULES 01, "Finding and editing by key".
 ghost use Rattle.tree.specs.Table.{tableOf};
 ghost use Rattle.table.specs.RowFound.{RowFound};
 ghost use Rattle.edit_at.specs.EditLeaves.{EditLeaves};

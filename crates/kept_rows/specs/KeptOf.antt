@@ -1,5 +1,5 @@
--- The kept count of the contexts of one role: 01, "The step"; and what the functions that count them ask for. That the
--- role's number plays no part is `kept-role` (proofs/KeptOfLaws.antt). Assumes nothing.
+-- The kept count of the contexts of one role: RULES 01, "The step"; and what the functions that count them ask for.
+-- That the role's number plays no part is `kept-role` (proofs/KeptOfLaws.antt). Assumes nothing.
 use Prim.Native.Nat.{ℕ, _≤_}
 use mathlib.Core.List.{List}
 use lib.ListN.{length}

@@ -1,4 +1,4 @@
-// What carrying checks before it looks at its room: document 02, E1, refusals 1, 3 to 5 and 17, in this order.
+// What carrying checks before it looks at its room: RULES 02, E1, refusals 1, 3 to 5 and 17, in this order.
 ghost use mathlib.Core.Path.{_≡_};
 ghost use mathlib.Core.Bool.{not};
 ghost use Prim.Native.Nat.{_≤_};

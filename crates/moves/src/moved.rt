@@ -1,4 +1,4 @@
-// One row over an edit: document 02, E1. The edit's signed move is added to row numbers; it is never split by its sign.
+// One row over an edit: RULES 02, E1. The edit's signed move is added to row numbers; it is never split by its sign.
 ghost use mathlib.Core.Path.{_≡_};
 ghost use mathlib.Core.Bool.{cond};
 ghost use Prim.Native.Nat.{_≤_};

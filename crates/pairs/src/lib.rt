@@ -1,4 +1,4 @@
-// The pairs of role and row that a caller hands in: document 01, "The step", refusals 3, 4 and 5. Two passes
+// The pairs of role and row that a caller hands in: RULES 01, "The step", refusals 3, 4 and 5. Two passes
 // without a branch show that most lists are right; only a list that fails is searched for its least wrong place.
 ghost use mathlib.Core.Path.{_≡_};
 ghost use mathlib.Core.Bool.{false, not};

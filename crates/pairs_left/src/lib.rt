@@ -1,4 +1,4 @@
-// All pairs over an edit: document 02, E1. They are counted first, so that the pass that writes them needs no branch: a
+// All pairs over an edit: RULES 02, E1. They are counted first, so that the pass that writes them needs no branch: a
 // pair that goes is written over by the next one that stays, and nothing is written behind the last. While four are
 // left, a turn writes four, which is faster than a turn for each. Where none goes, each keeps its place.
 ghost use mathlib.Core.Path.{_≡_};

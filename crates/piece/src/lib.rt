@@ -1,4 +1,4 @@
-// Whether a piece may come under a row: document 01, "Finding and editing by key"; refusals 10 to 14.
+// Whether a piece may come under a row: RULES 01, "Finding and editing by key"; refusals 10 to 14.
 ghost use mathlib.Core.Path.{_≡_};
 ghost use Prim.Native.Nat.{ℕ, _+_, _<_, _≤_};
 ghost use mathlib.Core.Bool.{_||_};

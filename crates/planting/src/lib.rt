@@ -1,4 +1,4 @@
-// The rows of a piece that fits, put in under a row: document 01, "Finding and editing by key".
+// The rows of a piece that fits, put in under a row: RULES 01, "Finding and editing by key".
 ghost use Rattle.tree.specs.Table.{tableOf};
 ghost use Rattle.edit_at.specs.EditLeaves.{EditLeaves};
 ghost use Rattle.edit_at.specs.AtRow.{PieceChecked, insertAt};

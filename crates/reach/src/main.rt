@@ -1,4 +1,4 @@
-// The example program: which setpoints of document 01's small farm do roles 5 and 7 reach? It runs M1 and prints each
+// The example program: which setpoints of RULES 01's small farm do roles 5 and 7 reach? It runs M1 and prints each
 // result with the key of its row, then the number of results and the kept count.
 use io::print_decimal;
 use libc::STDOUT_FILENO;

@@ -6,8 +6,17 @@ ghost use Rattle.tree.specs.Outcome.{insertOutcome, deleteOutcome, renameOutcom
 ghost use Rattle.tree.specs.Step.{askOf};
 ghost use Rattle.tree.specs.Carry.{carryOutcome};
 ghost use Rattle.answer.specs.Answer.{checkAnswer, findAnswer, StepAnswers, EditAnswers, CarryAnswers};
+ghost use Rattle.answer.specs.Version.{version};
 use answer::Answer;
 use tree::Ask;
+
+// The version of the library that is linked, which may be another than that of the header compiled against.
+#[no_mangle]
+pub extern "C" fn reach_version() -> usize
+    ensures { λ r. ⌜ r ≡ version ⌝ }
+{
+    answer::library_version()
+}
 
 // Refusal 1 or 2, or that the table is sound.
 #[no_mangle]
@@ -35,13 +44,13 @@ pub extern "C" fn reach_find(
     kind: &[usize],
     name: &[usize],
     count: usize,
-    wanted: usize,
+    key_wanted: usize,
 ) -> Answer
     ensures { λ r. ⌜ r ≡ findAnswer (findOutcome
         (tableOf (now (key .entry)) (now (size .entry)) (now (level .entry))
-        (now (kind .entry)) (now (name .entry)) count) wanted) ⌝ }
+        (now (kind .entry)) (now (name .entry)) count) «key_wanted») ⌝ }
 {
-    answer::of_find(table::find(key, size, level, kind, name, count, wanted))
+    answer::of_find(table::find(key, size, level, kind, name, count, key_wanted))
 }
 
 // One step for all roles: the number of results in first, the kept count in second, or a refusal from 1 to 8.
@@ -97,7 +106,7 @@ pub extern "C" fn reach_insert(
     kind: &mut [usize],
     name: &mut [usize],
     count: usize,
-    parent: usize,
+    parent_key: usize,
     p_key: &[usize],
     p_size: &[usize],
     p_level: &[usize],
@@ -107,7 +116,7 @@ pub extern "C" fn reach_insert(
 ) -> Answer
     ensures { λ r. ⌜ EditAnswers (insertOutcome
         (tableOf (now (key .entry)) (now (size .entry)) (now (level .entry)) (now (kind .entry))
-        (now (name .entry)) count) parent
+        (now (name .entry)) count) «parent_key»
         (tableOf (now («p_key» .entry)) (now («p_size» .entry)) (now («p_level» .entry)) (now («p_kind» .entry))
         (now («p_name» .entry)) «p_count»)) r
         (now (key .exit)) (now (size .exit)) (now (level .exit)) (now (kind .exit)) (now (name .exit)) ⌝ }
@@ -119,7 +128,7 @@ pub extern "C" fn reach_insert(
         kind,
         name,
         count,
-        parent,
+        parent_key,
         p_key,
         p_size,
         p_level,
@@ -138,14 +147,14 @@ pub extern "C" fn reach_delete(
     kind: &mut [usize],
     name: &mut [usize],
     count: usize,
-    wanted: usize,
+    key_wanted: usize,
 ) -> Answer
     ensures { λ r. ⌜ EditAnswers (deleteOutcome
         (tableOf (now (key .entry)) (now (size .entry)) (now (level .entry)) (now (kind .entry))
-        (now (name .entry)) count) wanted) r
+        (now (name .entry)) count) «key_wanted») r
         (now (key .exit)) (now (size .exit)) (now (level .exit)) (now (kind .exit)) (now (name .exit)) ⌝ }
 {
-    answer::of_edit(edit::delete(key, size, level, kind, name, count, wanted))
+    answer::of_edit(edit::delete(key, size, level, kind, name, count, key_wanted))
 }
 
 // The row of a key gets a new name: answers as an insertion, or refusal 1, 2, 9 or 16.
@@ -157,15 +166,15 @@ pub extern "C" fn reach_rename(
     kind: &mut [usize],
     name: &mut [usize],
     count: usize,
-    wanted: usize,
+    key_wanted: usize,
     new_name: usize,
 ) -> Answer
     ensures { λ r. ⌜ EditAnswers (renameOutcome
         (tableOf (now (key .entry)) (now (size .entry)) (now (level .entry)) (now (kind .entry))
-        (now (name .entry)) count) wanted «new_name») r
+        (now (name .entry)) count) «key_wanted» «new_name») r
         (now (key .exit)) (now (size .exit)) (now (level .exit)) (now (kind .exit)) (now (name .exit)) ⌝ }
 {
-    answer::of_edit(edit::rename(key, size, level, kind, name, count, wanted, new_name))
+    answer::of_edit(edit::rename(key, size, level, kind, name, count, key_wanted, new_name))
 }
 
 // The pairs after an edit of a table of so many rows, by the edit's first moved row and move: their number in first, or

@@ -1,4 +1,4 @@
-// The least row of a table that is not sound: document 01, "The table".
+// The least row of a table that is not sound: RULES 01, "The table".
 ghost use mathlib.Core.Path.{_≡_};
 ghost use Prim.Native.Nat.{_<_};
 ghost use Rattle.tree.specs.Table.{tableOf, shortest, countOk};

@@ -1,4 +1,4 @@
-// The rules of one row: document 01, "The table". A function for each rule but the key's, which `keys` has.
+// The rules of one row: RULES 01, "The table". A function for each rule but the key's, which `keys` has.
 ghost use mathlib.Core.Path.{_≡_};
 ghost use Prim.Native.Nat.{_<_, _≤_};
 ghost use lib.ListN.{length};

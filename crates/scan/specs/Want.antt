@@ -1,4 +1,4 @@
--- The node test of a step as a wanted kind and a wanted name, which a scan compares row by row: 01, "The step".
+-- The node test of a step as a wanted kind and a wanted name, which a scan compares row by row: RULES 01, "The step".
 -- That it is 01's test is `fits-passes` (proofs/WantLaws.antt). Assumes nothing.
 use Prim.Native.Nat.{ℕ}
 use mathlib.Core.Bool.{Bool, cond, _&&_, _||_}

@@ -1,4 +1,4 @@
-// Rows that move in one column: document 01, "The rows from the gap on move down in the lent columns". The part of a
+// Rows that move in one column: RULES 01, "The rows from the gap on move down in the lent columns". The part of a
 // column from the gap on is lent to one mover, whatever the column holds.
 ghost use mathlib.Core.Path.{_≡_};
 ghost use mathlib.Core.List.{_++_, map};

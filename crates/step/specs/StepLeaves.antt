@@ -1,4 +1,4 @@
--- What a step leaves: its answer and both result columns are those of the outcome that document 01 defines.
+-- What a step leaves: its answer and both result columns are those of the outcome that RULES 01 defines.
 -- Assumes nothing.
 use mathlib.Core.Path.{_≡_}
 use mathlib.Core.List.{List}

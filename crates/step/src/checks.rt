@@ -1,4 +1,4 @@
-// What a step checks before it looks at its room: document 01, refusals 1 to 7, in their order.
+// What a step checks before it looks at its room: RULES 01, refusals 1 to 7, in their order.
 ghost use mathlib.Core.Path.{_≡_};
 ghost use Rattle.tree.specs.Table.{tableOf};
 ghost use Rattle.tree.specs.Refusal.{next, tableCheck, pairCheck, askCheck};

@@ -1,4 +1,4 @@
-// One location step for all roles: document 01, "The step". Nothing is written before it is known that all of it fits.
+// One location step for all roles: RULES 01, "The step". Nothing is written before it is known that all of it fits.
 ghost use Rattle.tree.specs.Table.{tableOf};
 ghost use Rattle.tree.specs.Outcome.{stepOutcome};
 ghost use Rattle.step.specs.StepLeaves.{StepLeaves};

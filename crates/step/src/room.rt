@@ -1,4 +1,4 @@
-// Whether the lines of a step fit: document 01, refusal 8. They are counted only where no cheap bound shows it.
+// Whether the lines of a step fit: RULES 01, refusal 8. They are counted only where no cheap bound shows it.
 ghost use mathlib.Core.Path.{_≡_};
 ghost use lib.Dec.{ltb};
 ghost use lib.ListN.{length};

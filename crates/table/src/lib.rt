@@ -1,4 +1,4 @@
-// What every call checks first, and finding a row by its key: document 01, "The table" and "Finding and editing by
+// What every call checks first, and finding a row by its key: RULES 01, "The table" and "Finding and editing by
 // key". No column is changed.
 ghost use mathlib.Core.Path.{_≡_};
 ghost use Prim.Native.Nat.{_≤_};
@@ -32,11 +32,11 @@ pub fn check(
 }
 
 // The row of a key among the first rows, or refusal 9; for calls that have checked the table.
-pub fn locate(key: &[usize], count: usize, wanted: usize) -> Found
+pub fn locate(key: &[usize], count: usize, key_wanted: usize) -> Found
     requires { ⌜ count ≤ length (now key) ⌝ }
-    ensures { λ r. ⌜ r ≡ located (now (key .entry)) count wanted ⌝ }
+    ensures { λ r. ⌜ r ≡ located (now (key .entry)) count «key_wanted» ⌝ }
 {
-    let row = keys::row_of(key, count, wanted);
+    let row = keys::row_of(key, count, key_wanted);
     if row < count {
         return Found::At(row);
     }
@@ -51,15 +51,15 @@ pub fn find(
     kind: &[usize],
     name: &[usize],
     count: usize,
-    wanted: usize,
+    key_wanted: usize,
 ) -> Found
     ensures { λ r. ⌜ r ≡ findOutcome
         (tableOf (now (key .entry)) (now (size .entry)) (now (level .entry))
-        (now (kind .entry)) (now (name .entry)) count) wanted ⌝ }
+        (now (kind .entry)) (now (name .entry)) count) «key_wanted» ⌝ }
 {
     let checked = check(key, size, level, kind, name, count);
     match checked {
         Checked::Refused(number, place) => Found::Refused(number, place),
-        Checked::Passed => locate(key, count, wanted),
+        Checked::Passed => locate(key, count, key_wanted),
     }
 }

@@ -1,6 +1,6 @@
--- The refusals of carrying pairs over an edit, in the order of 02, E1, which gives 17 before 8: `old-refused` (1),
--- `carry-uneven` (3), `carry-order` (4), `carry-outside` (5), `move-refused` (17), `carry-room` (8). Each says that no
--- earlier one applies, then its own condition, then the place. Assumes nothing.
+-- The refusals of carrying pairs over an edit, in the order of RULES 02, E1, which gives 17 before 8: `old-refused`
+-- (1), `carry-uneven` (3), `carry-order` (4), `carry-outside` (5), `move-refused` (17), `carry-room` (8). Each says
+-- that no earlier one applies, then its own condition, then the place. Assumes nothing.
 use mathlib.Core.Path.{_≡_, refl}
 use mathlib.Core.Logic.{_↔_, Iff·trans}
 use mathlib.Core.Bool.{not}

@@ -1,9 +1,9 @@
--- The columns of an edited table: 01, "Finding and editing by key". Where a row stands afterwards: `opened-stays`,
--- `opened-moves`, `closed-stays`, `closed-moves`; the rows that came in, `opened-new`, the freed ones, `closed-freed`,
--- and the spare ones, `opened-spare`, `closed-spare`; what a row holds where sizes change: `changed-at`,
--- `changed-not`, `changed-take`, `changed-after`. Rows in use and what follows them: `opened-is`, `closed-is`.
--- No column changes its length: `length-opened`, `length-closed`, `length-changed`. The part of a column from a row
--- on, lent and back: `tail-mid`, `tail-put`. Assumes nothing.
+-- The columns of an edited table: RULES 01, "Finding and editing by key". Where a row stands afterwards:
+-- `opened-stays`, `opened-moves`, `closed-stays`, `closed-moves`; the rows that came in, `opened-new`, the freed ones,
+-- `closed-freed`, and the spare ones, `opened-spare`, `closed-spare`; what a row holds where sizes change:
+-- `changed-at`, `changed-not`, `changed-take`, `changed-after`. Rows in use and what follows them: `opened-is`,
+-- `closed-is`. No column changes its length: `length-opened`, `length-closed`, `length-changed`. The part of a column
+-- from a row on, lent and back: `tail-mid`, `tail-put`. Assumes nothing.
 use mathlib.Core.Path.{_≡_, refl, sym, ap, ap₂, _∙_}
 use mathlib.Core.Bool.{Bool, false, cond}
 use mathlib.Core.List.{List, [], _∷_, _++_, append-assoc, append-nil}

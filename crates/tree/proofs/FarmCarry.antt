@@ -1,6 +1,5 @@
--- Pairs of the small farm carried over its edits, and each refusal and boundary that 02, E1 names, as one table of
--- calls with what each gives, `cases`, and one theorem, `farm-carries`.
--- Assumes nothing.
+-- Pairs of the small farm carried over its edits, and each refusal and boundary that RULES 02, E1 names, as one table
+-- of calls with what each gives, `cases`, and one theorem, `farm-carries`. Assumes nothing.
 use Prim.Native.Nat.{ℕ}
 use mathlib.Core.Path.{_≡_, refl}
 use mathlib.Core.List.{List, [], _∷_, _++_, map}

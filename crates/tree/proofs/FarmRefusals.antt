@@ -1,4 +1,4 @@
--- The order of the refusals: 01, "Where several apply, the lowest is given". For each call, and each two of its
+-- The order of the refusals: RULES 01, "Where several apply, the lowest is given". For each call, and each two of its
 -- refusals that come one after the other and can apply at once, a case to which both apply. One table of calls with
 -- what each gives, `cases`, and one theorem, `lowest-given`. Those of carrying pairs are in FarmCarry.antt.
 -- Assumes nothing.

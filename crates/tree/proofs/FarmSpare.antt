@@ -1,6 +1,6 @@
--- Spare rows on the small farm: 01, "The table". The farm with other spare rows, and in the key column any or none, has
--- the same rows in use, `same-farm`. So checking it, finding a key and a step answer what they answer on the farm:
--- `same-check`, `same-find`, `same-step`. For edits: after_edit/proofs/FarmRoom.antt. Assumes nothing.
+-- Spare rows on the small farm: RULES 01, "The table". The farm with other spare rows, and in the key column any or
+-- none, has the same rows in use, `same-farm`. So checking it, finding a key and a step answer what they answer on the
+-- farm: `same-check`, `same-find`, `same-step`. For edits: after_edit/proofs/FarmRoom.antt. Assumes nothing.
 use Prim.Native.Nat.{ℕ}
 use mathlib.Core.Path.{_≡_, refl}
 use mathlib.Core.List.{List, [], _∷_, _++_}

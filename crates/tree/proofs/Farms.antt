@@ -1,4 +1,4 @@
--- Several farms in one table: 02, E2, worked cases as one table of calls with what each gives, `cases`, and one
+-- Several farms in one table: RULES 02, E2, worked cases as one table of calls with what each gives, `cases`, and one
 -- theorem, `several-farms`. A step on them, farm by farm: `farms-parts`.
 -- Assumes nothing.
 use Prim.Native.Nat.{ℕ}

@@ -1,4 +1,4 @@
--- What finding a key answers: 01, "Finding and editing by key". Refusals: `given-refused`, of any check;
+-- What finding a key answers: RULES 01, "Finding and editing by key". Refusals: `given-refused`, of any check;
 -- `table-numbers`, the table's are 1 and 2; `key-refused`, an edit's key gets 9 exactly if no row in use has it.
 -- Finding: `find-none`, refusal 9 exactly if the table is sound and no row in use has the key; `find-zero`, so always
 -- for key 0; `find-row`, a row is found for its key; `find-found`, exactly a row that has the key is found.

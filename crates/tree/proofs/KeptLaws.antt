@@ -159,7 +159,7 @@ module _ (axis : ℕ) (level : List ℕ) where
   unfolding drops
   kept-least g ps p = kept-by ps p _ (λ d. ⊎-elim (λ e. rw e) (λ e. rw e) g)
 
-  -- 02, E2: on 8 and 9 one pair per role and tree remains: two of one role in one tree are the same
+  -- RULES 02, E2: on 8 and 9 one pair per role and tree remains: two of one role in one tree are the same
   pub kept-same : (axis ≡ 8) ⊎ (axis ≡ 9) → (ps : List Pair) (p q : Pair)
       → In p (kept ps) → In q (kept ps) → p .role ≡ q .role → root level (p .row) ≡ root level (q .row) → p ≡ q
   unfolding sameTree

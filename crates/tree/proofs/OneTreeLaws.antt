@@ -1,8 +1,8 @@
--- A table of one tree gets every answer that 01 gives it: each definition that 02, E2 changed says of such a table what
--- 01 says. The rules of a row: `one-row`; the axes following and preceding: `one-following`, `one-preceding`; which
--- pairs are redundant: `one-drops`; refusal 15: `one-delete`; refusal 10 for a piece of one tree: `one-piece`. A piece
--- of several trees broke 01's level rule and still gets 10: `several-piece`. The other definitions are 01's, to the
--- letter, so what stands on these is the same too. Assumes nothing.
+-- A table of one tree gets every answer that 01 gives it: each definition that RULES 02, E2 changed says of such a
+-- table what 01 says. The rules of a row: `one-row`; the axes following and preceding: `one-following`,
+-- `one-preceding`; which pairs are redundant: `one-drops`; refusal 15: `one-delete`; refusal 10 for a piece of one
+-- tree: `one-piece`. A piece of several trees broke 01's level rule and still gets 10: `several-piece`. The other
+-- definitions are 01's, to the letter, so what stands on these is the same too. Assumes nothing.
 use mathlib.Core.Path.{_≡_, refl, sym, ap, ap₂, _∙_}
 use mathlib.Core.Bool.{Bool, true, false, cond, not, _&&_, _||_, or-false, or-true}
 use mathlib.Core.List.{List}

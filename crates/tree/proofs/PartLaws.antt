@@ -1,7 +1,6 @@
--- A tree of a table as a table of its own, `treeAt`: 02, E2. Its rows are those from its root on, as many as the root's
--- size says and one; their levels and sizes make a tree again, `part-shape`; it is sound, `part-sound`. Parents,
--- ancestors and axes in it are those of the table: `part-parent`, `part-ancestor`, `part-axis`.
--- Assumes nothing.
+-- A tree of a table as a table of its own, `treeAt`: RULES 02, E2. Its rows are those from its root on, as many as the
+-- root's size says and one; their levels and sizes make a tree again, `part-shape`; it is sound, `part-sound`. Parents,
+-- ancestors and axes in it are those of the table: `part-parent`, `part-ancestor`, `part-axis`. Assumes nothing.
 use mathlib.Core.Path.{_≡_, refl, sym, ap, ap₂, _∙_}
 use mathlib.Core.Logic.{_⊎_, ⊎-elim}
 use mathlib.Core.Bool.{Bool, true, _&&_}

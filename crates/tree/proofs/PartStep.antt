@@ -1,7 +1,7 @@
--- A step seen in one tree of a table is the step on that tree alone, as a table of its own: 02, E2. Its pairs there are
--- `pairs-in` and fit the tree, `pairs-fit`. The lines in the tree are those that the step on the tree lists,
--- `step-part`; the pairs that remain there for the kept count are those that remain in the tree, `kept-part`.
--- Assumes nothing.
+-- A step seen in one tree of a table is the step on that tree alone, as a table of its own: RULES 02, E2. Its pairs
+-- there are `pairs-in` and fit the tree, `pairs-fit`. The lines in the tree are those that the step on the tree lists,
+-- `step-part`; the pairs that remain there for the kept count are those that remain in the tree, `kept-part`. Assumes
+-- nothing.
 use mathlib.Core.Path.{_≡_, refl, sym, ap, ap₂, subst, _∙_}
 use mathlib.Core.Logic.{_⊎_, inl, inr, ⊎-elim, _↔_}
 use mathlib.Core.Bool.{Bool, true, false, cond, not, _&&_, _||_, true≢false, and-false}

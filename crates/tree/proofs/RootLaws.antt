@@ -1,5 +1,5 @@
--- The tree of a row: 02, E2. Each row has exactly one root: `root-is`, `is-root`, `has-root`, `one-root`. A tree is a
--- range of rows, its root's and the next size rows: `tree-range`; the trees stand side by side and fill the table:
+-- The tree of a row: RULES 02, E2. Each row has exactly one root: `root-is`, `is-root`, `has-root`, `one-root`. A tree
+-- is a range of rows, its root's and the next size rows: `tree-range`; the trees stand side by side and fill the table:
 -- `tree-next`, `tree-fits`. A row under another is in its tree, `under-tree`; no axis leaves the tree of its context,
 -- `axis-tree`. By sizes, as tests that an engine computes: `same-tree-is`, `following-range`, `preceding-range`.
 -- Assumes nothing.

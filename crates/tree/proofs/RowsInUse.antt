@@ -1,5 +1,5 @@
--- Spare rows are never read: 01, "The table". A table cut to its rows in use gets the same answers, `cut-..`. So two
--- tables whose rows in use are the same get the same answer to the check, `in-use-check`, to a find, `in-use-find`,
+-- Spare rows are never read: RULES 01, "The table". A table cut to its rows in use gets the same answers, `cut-..`. So
+-- two tables whose rows in use are the same get the same answer to the check, `in-use-check`, to a find, `in-use-find`,
 -- and to a step, result columns too, `in-use-step`. `SameRows` is the only premise: of each column it says that it has
 -- as many rows as the count in both tables or in neither, so refusal 1 agrees too. For edits: `in-use-edit`,
 -- `in-use-piece` (after_edit/proofs/InUseLaws.antt). Assumes nothing.

@@ -1,7 +1,7 @@
--- A step on a table of several trees is the steps on its trees, each as a table of its own, together: 02, E2. A list of
--- pairs is its trees' parts, `parts-together`; so results and kept count are the sums over the trees, `results-trees`,
--- `kept-trees`. Of the calls themselves, in one sentence: `step-trees`. What is seen in one tree is in PartStep.antt.
--- Assumes nothing.
+-- A step on a table of several trees is the steps on its trees, each as a table of its own, together: RULES 02, E2. A
+-- list of pairs is its trees' parts, `parts-together`; so results and kept count are the sums over the trees,
+-- `results-trees`, `kept-trees`. Of the calls themselves, in one sentence: `step-trees`. What is seen in one tree is in
+-- PartStep.antt. Assumes nothing.
 use mathlib.Core.Path.{_≡_, refl, sym, ap, ap₂, subst, _∙_}
 use mathlib.Core.Logic.{inl, inr, ⊎-elim}
 use mathlib.Core.Bool.{Bool, true, false, cond, not, true≢false}

@@ -1,6 +1,6 @@
--- Grants that move with their rows: 02, E1, and E2, by which the first moved row may come to row 0. A list of pairs is
--- carried over an edit by the old count and by what the edit answered, its first moved row and its move. For edits that
--- the library accepted each pair keeps its key: carry/proofs/GrantLaws.antt. Assumes nothing.
+-- Grants that move with their rows: RULES 02, E1, and E2, by which the first moved row may come to row 0. A list of
+-- pairs is carried over an edit by the old count and by what the edit answered, its first moved row and its move. For
+-- edits that the library accepted each pair keeps its key: carry/proofs/GrantLaws.antt. Assumes nothing.
 use Prim.Native.Nat.{ℕ}
 use mathlib.Core.Bool.{Bool, cond, not, _&&_}
 use mathlib.Core.List.{List, [], _∷_}

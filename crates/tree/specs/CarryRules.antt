@@ -1,4 +1,4 @@
--- When carrying pairs over an edit is accepted, as propositions: 02, E1. That the checks of Carry say the same is
+-- When carrying pairs over an edit is accepted, as propositions: RULES 02, E1. That the checks of Carry say the same is
 -- `move-ok` (proofs/RowMoveLaws.antt) and `carry-passes` (proofs/CarryAccept.antt). Assumes nothing.
 use mathlib.Core.Path.{_≡_}
 use mathlib.Core.Bool.{Bool, cond, _&&_}

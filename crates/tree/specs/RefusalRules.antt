@@ -1,8 +1,8 @@
--- What the refusals are given for, as propositions: 01, "Refusal numbers", column "given exactly when", as 02's E1 and
--- E2 left it. Not here, since Rules, StepRules and CarryRules have them: 2 is for the least row that is not a
+-- What the refusals are given for, as propositions: RULES 01, "Refusal numbers", column "given exactly when", as 02's
+-- E1 and E2 left it. Not here, since Rules, StepRules and CarryRules have them: 2 is for the least row that is not a
 -- `SoundRow`, 7 where `TestRule` fails, 17 where `MoveFits` does; and 8 and 11, which compare two numbers. That a call
--- answers a number and a place exactly then is in proofs/TableRefusals.antt and the others that Request names.
--- Assumes nothing.
+-- answers a number and a place exactly then is in proofs/TableRefusals.antt and the others that Request names. Assumes
+-- nothing.
 use mathlib.Core.Path.{_≡_}
 use mathlib.Core.Logic.{_⊎_}
 use mathlib.Core.List.{List}
@@ -95,7 +95,7 @@ OnlyRoot t r = (at (t .level) r ≡ 0) × (OtherRoot (t .level) (t .count) r →
 abbrev pub NoName : Table → ℕ → ℕ → Type 0
 NoName t r m = ((at (t .kind) r ≡ 1) ⊎ (at (t .kind) r ≡ 4) → ⊥) ⊎ (m ≡ 0)
 
--- ── carrying pairs over an edit: 02, E1 ──
+-- ── carrying pairs over an edit: RULES 02, E1 ──
 -- 1: the old count is 0 or above `mostRows`; and where it is neither
 abbrev pub WrongOld : ℕ → Type 0
 WrongOld old = (old ≡ 0) ⊎ (mostRows < old)

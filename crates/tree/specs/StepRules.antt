@@ -1,4 +1,4 @@
--- When a step is accepted, as propositions: 01, "The step", and "Refusal numbers" 1 to 8.
+-- When a step is accepted, as propositions: RULES 01, "The step", and "Refusal numbers" 1 to 8.
 -- That the checks of Refusal say the same is `pair-passes` (proofs/RoleLaws.antt) and `step-passes`
 -- (proofs/StepAccept.antt). Assumes nothing.
 use mathlib.Core.Path.{_≡_}

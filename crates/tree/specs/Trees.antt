@@ -1,5 +1,5 @@
--- The trees of a table, each as a table of its own: 02, E2. That a step on the table is the steps on its trees together
--- is `step-trees` (proofs/UnionLaws.antt); no contract cites these. Assumes nothing.
+-- The trees of a table, each as a table of its own: RULES 02, E2. That a step on the table is the steps on its trees
+-- together is `step-trees` (proofs/UnionLaws.antt); no contract cites these. Assumes nothing.
 use mathlib.Core.Path.{_≡_}
 use Prim.Native.Nat.{ℕ, zero, suc, _+_, _-_, _<_, _≤_}
 use mathlib.Core.Bool.{Bool, cond, not}

@@ -24,26 +24,26 @@ pub struct TableMut<'a> {
 }
 
 /// Makes the piece the last child of the row with the key: refusals 1, 2 and 9 to 14.
-pub fn insert(table: &mut TableMut<'_>, parent: usize, piece: &Table<'_>) -> Answer {
-    let changed = inserted(&table.as_lent(), parent, piece);
+pub fn insert(table: &mut TableMut<'_>, parent_key: usize, piece: &Table<'_>) -> Answer {
+    let changed = inserted(&table.as_lent(), parent_key, piece);
     table.finish(changed)
 }
 
 /// Deletes the row with the key and what is below it: refusals 1, 2, 9 and 15.
-pub fn delete(table: &mut TableMut<'_>, wanted: usize) -> Answer {
-    let changed = deleted(&table.as_lent(), wanted);
+pub fn delete(table: &mut TableMut<'_>, key_wanted: usize) -> Answer {
+    let changed = deleted(&table.as_lent(), key_wanted);
     table.finish(changed)
 }
 
 /// Gives the row with the key another name: refusals 1, 2, 9 and 16.
-pub fn rename(table: &mut TableMut<'_>, wanted: usize, new_name: usize) -> Answer {
-    let changed = renamed(&table.as_lent(), wanted, new_name);
+pub fn rename(table: &mut TableMut<'_>, key_wanted: usize, new_name: usize) -> Answer {
+    let changed = renamed(&table.as_lent(), key_wanted, new_name);
     table.finish(changed)
 }
 
-fn inserted(table: &Table<'_>, parent: usize, piece: &Table<'_>) -> Result<Forest, Refused> {
+fn inserted(table: &Table<'_>, parent_key: usize, piece: &Table<'_>) -> Result<Forest, Refused> {
     let rows = sound_rows(table)?;
-    let parent = row_of_key(&rows, parent)?;
+    let parent = row_of_key(&rows, parent_key)?;
     let piece = good_piece(piece)?;
     if rows.kind[parent] != 0 && rows.kind[parent] != 1 {
         return Err(Refused { number: 11, place: parent });
@@ -67,25 +67,25 @@ fn inserted(table: &Table<'_>, parent: usize, piece: &Table<'_>) -> Result<Fores
 /// than one tree.
 fn good_piece<'a>(piece: &Table<'a>) -> Result<Rows<'a>, Refused> {
     match sound_rows(piece) {
-        Ok(rows) if rows.kind[0] != 0 && Forest::of(&rows).roots().len() == 1 => Ok(rows),
+        Ok(rows) if rows.kind[0] != 0 && Forest::of(&rows).roots.len() == 1 => Ok(rows),
         _ => Err(Refused { number: 10, place: 0 }),
     }
 }
 
-fn deleted(table: &Table<'_>, wanted: usize) -> Result<Forest, Refused> {
+fn deleted(table: &Table<'_>, key_wanted: usize) -> Result<Forest, Refused> {
     let rows = sound_rows(table)?;
-    let row = row_of_key(&rows, wanted)?;
+    let row = row_of_key(&rows, key_wanted)?;
     let mut forest = Forest::of(&rows);
-    if forest.roots() == [row] {
+    if forest.roots == [row] {
         return Err(Refused { number: 15, place: 0 });
     }
     forest.delete(row);
     Ok(forest)
 }
 
-fn renamed(table: &Table<'_>, wanted: usize, new_name: usize) -> Result<Forest, Refused> {
+fn renamed(table: &Table<'_>, key_wanted: usize, new_name: usize) -> Result<Forest, Refused> {
     let rows = sound_rows(table)?;
-    let row = row_of_key(&rows, wanted)?;
+    let row = row_of_key(&rows, key_wanted)?;
     let has_name = rows.kind[row] == 1 || rows.kind[row] == 4;
     if !has_name || new_name == 0 {
         return Err(Refused { number: 16, place: row });

@@ -1,24 +1,23 @@
-//! Trees of linked nodes, which an edit changes as XQuery Update describes it.
+//! Trees of linked nodes: a step reads them, an edit changes them as XQuery Update describes it.
 
-use crate::links::parents;
 use crate::table::Rows;
 
 /// A node with its parent and its children in their order, which are named by their places in
 /// the list of all nodes.
-struct Node {
-    key: usize,
-    kind: usize,
-    name: usize,
-    parent: Option<usize>,
-    children: Vec<usize>,
+pub(crate) struct Node {
+    pub key: usize,
+    pub kind: usize,
+    pub name: usize,
+    pub parent: Option<usize>,
+    pub children: Vec<usize>,
 }
 
 /// Linked nodes. A node that an edit adds comes after those that were there, so the nodes of
 /// the table it was made from stay at the places of their rows.
 pub(crate) struct Forest {
-    nodes: Vec<Node>,
+    pub nodes: Vec<Node>,
     /// The nodes without a parent, one for each tree, in their order.
-    roots: Vec<usize>,
+    pub roots: Vec<usize>,
 }
 
 /// A node as a row of a table again, and where it stood in the list of all nodes.
@@ -31,18 +30,23 @@ pub(crate) struct Line {
     pub name: usize,
 }
 
+/// The parent of a row of a sound table: the nearest earlier row whose level is one less. A root
+/// has none.
+fn parent_row(rows: &Rows<'_>, row: usize) -> Option<usize> {
+    (0..row).rev().find(|&earlier| rows.level[earlier] + 1 == rows.level[row])
+}
+
 impl Forest {
     /// Links the rows of a sound table.
     pub fn of(rows: &Rows<'_>) -> Forest {
-        let node = |row: usize, parent: Option<usize>| Node {
+        let node = |row: usize| Node {
             key: rows.key[row],
             kind: rows.kind[row],
             name: rows.name[row],
-            parent,
+            parent: parent_row(rows, row),
             children: Vec::new(),
         };
-        let parents = parents(rows).into_iter().enumerate();
-        let mut nodes: Vec<Node> = parents.map(|(row, parent)| node(row, parent)).collect();
+        let mut nodes: Vec<Node> = rows.numbers().map(node).collect();
         let mut roots = Vec::new();
         for row in rows.numbers() {
             match nodes[row].parent {
@@ -53,8 +57,11 @@ impl Forest {
         Forest { nodes, roots }
     }
 
-    pub fn roots(&self) -> &[usize] {
-        &self.roots
+    /// For each node, whether it is one of the given.
+    pub fn marks(&self, given: impl Iterator<Item = usize>) -> Vec<bool> {
+        let mut marks = vec![false; self.nodes.len()];
+        given.for_each(|node| marks[node] = true);
+        marks
     }
 
     /// "insert node PIECE as last into TARGET": the piece's root becomes the last child.
@@ -85,22 +92,13 @@ impl Forest {
 
     /// The nodes that can be reached from a root, in document order.
     pub fn lines(&self) -> Vec<Line> {
-        let mut lines = Vec::new();
-        for &root in &self.roots {
-            self.add_lines(root, 0, &mut lines);
-        }
-        lines
+        self.in_document_order().into_iter().map(|node| self.line(node)).collect()
     }
 
-    fn add_lines(&self, node: usize, level: usize, lines: &mut Vec<Line>) {
+    fn line(&self, node: usize) -> Line {
+        let size = self.descendants(node).len();
+        let level = self.ancestors(node).count();
         let Node { key, kind, name, .. } = self.nodes[node];
-        lines.push(Line { node, key, size: self.descendants(node), level, kind, name });
-        for &child in &self.nodes[node].children {
-            self.add_lines(child, level + 1, lines);
-        }
-    }
-
-    fn descendants(&self, node: usize) -> usize {
-        self.nodes[node].children.iter().map(|&child| 1 + self.descendants(child)).sum()
+        Line { node, key, size, level, kind, name }
     }
 }

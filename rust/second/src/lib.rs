@@ -1,18 +1,20 @@
 //! The second program: what the reach engine has to answer, worked out by brute force from the
 //! words of its rules.
 //!
-//! It takes every row against every row, follows parent links that it finds by searching back,
-//! edits trees of linked nodes, and carries pairs by looking their rows up in a list of all rows.
-//! It shares no method with the library it is compared with, and prefers what can be read at once
-//! to what is fast.
+//! It links the rows to trees of nodes: each has its parent, which is found by searching back, and
+//! the list of its children. A step walks along these links from every context, as XPath's data
+//! model tells it; an edit changes them, as XQuery Update tells it. Pairs are carried by looking
+//! their rows up in a list of all rows. It shares no method with the library it is compared with,
+//! and prefers what can be read at once to what is fast.
 
 #![forbid(unsafe_code)]
 
 mod answer;
+mod axes;
 mod carry;
 mod edit;
 mod forest;
-mod links;
+mod kept;
 mod pairs;
 mod sound;
 mod step;
@@ -40,8 +42,8 @@ pub fn check(table: &Table<'_>) -> Answer {
 }
 
 /// Finds the row of a key: refusals 1, 2 and 9.
-pub fn find(table: &Table<'_>, wanted: usize) -> Answer {
-    match sound_rows(table).and_then(|rows| row_of_key(&rows, wanted)) {
+pub fn find(table: &Table<'_>, key_wanted: usize) -> Answer {
+    match sound_rows(table).and_then(|rows| row_of_key(&rows, key_wanted)) {
         Ok(row) => Answer { first: row, ..Answer::default() },
         Err(refused) => refused.answer(),
     }
@@ -57,6 +59,6 @@ fn sound_rows<'a>(table: &Table<'a>) -> Result<Rows<'a>, Refused> {
 }
 
 /// The row in use that has the key.
-fn row_of_key(rows: &Rows<'_>, wanted: usize) -> Result<usize, Refused> {
-    rows.numbers().find(|&row| rows.key[row] == wanted).ok_or(Refused { number: 9, place: 0 })
+fn row_of_key(rows: &Rows<'_>, key_wanted: usize) -> Result<usize, Refused> {
+    rows.numbers().find(|&row| rows.key[row] == key_wanted).ok_or(Refused { number: 9, place: 0 })
 }

@@ -1,10 +1,11 @@
-//! One step for all roles: every row is taken against every pair.
+//! One step for all roles: the axis is walked from the row of every pair.
 
 use crate::answer::{Answer, Refused};
-use crate::links::Links;
+use crate::forest::{Forest, Node};
+use crate::kept::kept_count;
 use crate::pairs::{Pairs, Results};
 use crate::sound_rows;
-use crate::table::{Rows, Table};
+use crate::table::Table;
 
 /// What is asked along the way: the axis, and the test with its name.
 #[derive(Clone, Copy, Debug)]
@@ -41,13 +42,13 @@ fn accepted(
     good_question(question)?;
     // Equal pairs count once.
     pairs.dedup();
-    let links = Links::of(&rows);
-    let found = Found::of(&rows, &links, &pairs, question, results.room());
+    let forest = Forest::of(&rows);
+    let found = Found::of(&forest, &pairs, question, results.room());
     if found.count > results.room() {
         return Err(Refused { number: 8, place: found.count });
     }
     results.write(&found.listed);
-    Ok((found.count, kept_count(&links, &pairs, question.axis)))
+    Ok((found.count, kept_count(&forest, &pairs, question.axis)))
 }
 
 fn good_question(question: Question) -> Result<(), Refused> {
@@ -66,31 +67,9 @@ fn good_question(question: Question) -> Result<(), Refused> {
     }
 }
 
-/// Whether `row` is on the axis of the context. No axis leaves the tree of the context.
-fn is_on_axis(links: &Links, axis: usize, context: usize, row: usize) -> bool {
-    let is_self = || row == context;
-    let is_descendant = || links.is_ancestor(context, row);
-    let is_ancestor = || links.is_ancestor(row, context);
-    let is_in_tree = || links.are_in_one_tree(context, row);
-    match axis {
-        1 => is_self(),
-        2 => links.parent[row] == Some(context),
-        3 => is_descendant(),
-        4 => is_self() || is_descendant(),
-        5 => links.parent[context] == Some(row),
-        6 => is_ancestor(),
-        7 => is_self() || is_ancestor(),
-        8 => row > context && !is_descendant() && is_in_tree(),
-        9 => row < context && !is_ancestor() && is_in_tree(),
-        10 => links.are_siblings(context, row) && row > context,
-        11 => links.are_siblings(context, row) && row < context,
-        _ => unreachable!("other axes are refused"),
-    }
-}
-
-/// Whether the row passes the test.
-fn passes(rows: &Rows<'_>, question: Question, row: usize) -> bool {
-    let (kind, has_name) = (rows.kind[row], rows.name[row] == question.test_name);
+/// Whether the node passes the test.
+fn passes(node: &Node, question: Question) -> bool {
+    let (kind, has_name) = (node.kind, node.name == question.test_name);
     match question.test {
         0 => true,
         1 => kind == 1,
@@ -111,47 +90,23 @@ struct Found {
 }
 
 impl Found {
-    /// A pair (role, row) is a result exactly if some pair of that role has the row on its axis
-    /// and the row passes the test. Roles are taken in ascending order, and so are rows.
-    fn of(
-        rows: &Rows<'_>,
-        links: &Links,
-        pairs: &[(usize, usize)],
-        question: Question,
-        room: usize,
-    ) -> Found {
+    /// The results of a role are the nodes that pass the test and are on the axis of any of its
+    /// contexts. Roles are taken in ascending order, and their results in document order.
+    fn of(forest: &Forest, pairs: &[(usize, usize)], question: Question, room: usize) -> Found {
         let mut found = Found { count: 0, listed: Vec::new() };
+        let mut passing = forest.in_document_order();
+        passing.retain(|&node| passes(&forest.nodes[node], question));
         for of_role in pairs.chunk_by(|one, next| one.0 == next.0) {
-            let reached = |row: usize| {
-                of_role.iter().any(|&(_, context)| is_on_axis(links, question.axis, context, row))
-            };
-            for row in rows.numbers().filter(|&row| passes(rows, question, row) && reached(row)) {
+            let contexts = of_role.iter().map(|&(_, context)| context);
+            let is_reached =
+                forest.marks(contexts.flat_map(|context| forest.on_axis(question.axis, context)));
+            for &node in passing.iter().filter(|&&node| is_reached[node]) {
                 found.count += 1;
                 if found.count <= room {
-                    found.listed.push((of_role[0].0, row));
+                    found.listed.push((of_role[0].0, node));
                 }
             }
         }
         found
     }
-}
-
-/// The number of distinct pairs that remain when redundant ones are dropped.
-fn kept_count(links: &Links, pairs: &[(usize, usize)], axis: usize) -> usize {
-    let of_roles = pairs.chunk_by(|one, next| one.0 == next.0);
-    of_roles.map(|of_role| kept_of_role(links, of_role, axis)).sum()
-}
-
-/// The same for the pairs of one role. Of the pairs in one tree axes 8 and 9 leave one, here the
-/// first.
-fn kept_of_role(links: &Links, of_role: &[(usize, usize)], axis: usize) -> usize {
-    let is_redundant = |row: usize| {
-        of_role.iter().any(|&(_, other)| match axis {
-            3 | 4 => links.is_ancestor(other, row),
-            6 | 7 => links.is_ancestor(row, other),
-            8 | 9 => other < row && links.are_in_one_tree(other, row),
-            _ => false,
-        })
-    };
-    of_role.iter().filter(|&&(_, row)| !is_redundant(row)).count()
 }
