@@ -9,14 +9,14 @@
  * A table is sound when each row in use is:
  *   level  how deep the row stands: 0 in row 0; in a later row from 0 to one more than in the row before; at most 63.
  *          Each row of level 0 is a root: it starts a tree, which goes on to the next root
- *   size   the number of rows directly after it, without a break, whose level is greater than its own: its descendants
+ *   size   the number of rows in use directly after it, without a break, whose level is greater: its descendants
  *   kind   a REACH_KIND_ number: a document stands at level 0 only; text, comment and instruction have size 0
  *   name   not 0 for an element or an instruction, otherwise 0
  *   key    not 0, and unlike the key of every earlier row, whatever the tree
  * What a step keeps: the distinct pairs (role, row) that remain when redundant ones are dropped, whatever the test.
  *   descendant, descendant-or-self  a pair is redundant if the same role has a pair on an ancestor of its row
  *   ancestor, ancestor-or-self      a pair is redundant if the same role has a pair on a descendant of its row
- *   following, preceding            one pair remains for each role and tree that holds a pair of it
+ *   following, preceding            one pair remains for each role and tree that holds one of its pairs
  *   the other axes                  none is redundant
  *
  * Several farms in one table. One call answers for all roles of all farms, a role may hold rows in several of them, and
@@ -173,14 +173,16 @@ reach_answer reach_step(const size_t *key, size_t key_length, const size_t *size
                         size_t *out_role, size_t out_role_length, size_t *out_row, size_t out_row_length);
 
 /*
- * Edits by key. They write the five table columns; the caller keeps the new count, which is in first. second is
- * the first row that moved, in old numbering, and moved by how many rows: where no row moved, second is the old
- * count, and after a rename moved is 0. Spare rows stay as they were, but for those that an insertion uses.
+ * Edits by key. They write the five table columns; the caller keeps the new count, which is in first. second is the
+ * first row that moved, in old numbering, or the old count where none did; moved is the number of rows that came in,
+ * or minus the number that went, or 0 after a rename. Spare rows stay as they were, but for those that an insertion
+ * uses.
  */
 
 /*
  * The piece, a table of its own with one tree, whose columns are only read, becomes the last child of the row of
- * parent_key: its levels rise by that row's level plus one, later rows move down: refusals 1, 2, 9 to 14.
+ * parent_key: its levels rise by that row's level plus one, the sizes of that row and of its ancestors by p_count, and
+ * later rows move down: refusals 1, 2, 9 to 14.
  */
 reach_answer reach_insert(size_t *key, size_t key_length, size_t *size, size_t size_length, size_t *level,
                           size_t level_length, size_t *kind, size_t kind_length, size_t *name, size_t name_length,
@@ -190,8 +192,9 @@ reach_answer reach_insert(size_t *key, size_t key_length, size_t *size, size_t s
                           size_t p_count);
 
 /*
- * The row of key_wanted goes with its descendants, later rows close up, and the rows freed at the end are zero
- * in all five columns: refusals 1, 2, 9, 15. With its root a whole tree goes, but not the only one.
+ * The row of key_wanted goes with its descendants, the sizes of its ancestors fall, later rows close up, and the rows
+ * freed at the end are zero in all five columns: refusals 1, 2, 9, 15. With its root a whole tree goes, but not the
+ * only one.
  */
 reach_answer reach_delete(size_t *key, size_t key_length, size_t *size, size_t size_length, size_t *level,
                           size_t level_length, size_t *kind, size_t kind_length, size_t *name, size_t name_length,
@@ -206,10 +209,10 @@ reach_answer reach_rename(size_t *key, size_t key_length, size_t *size, size_t s
  * Pairs (role, row) that are kept between edits, carried over one: refusals 1, 3, 4, 5, 17 and 8, in this order.
  * old_count is the count before the edit; first and moved are what the edit answered in second and moved. Rows at or
  * past first move by moved; on a deletion the pairs of the deleted rows are dropped, which are the -moved rows
- * directly before first. So each pair that remains names the same key as before, and one is dropped exactly when its
- * key is gone. Reads the pairs, which ascend by role, then row. Writes out_role and out_row alone: the new list, in
- * the same order, equal pairs still equal, from place 0 on; places beyond it stay as they were. The next step takes
- * the new list as it is. first of the answer: its length.
+ * directly before first. So after an accepted edit each pair that remains names the same key as before, and one is
+ * dropped exactly when its key is gone. Reads the pairs, which ascend by role, then row. Writes out_role and out_row
+ * alone: the new list, in the same order, equal pairs still equal, from place 0 on; places beyond it stay as they
+ * were. The next step takes the new list as it is. first of the answer: its length.
  */
 reach_answer reach_carry(const size_t *role, size_t role_length, const size_t *row, size_t row_length,
                          size_t old_count, size_t first, int64_t moved, size_t *out_role, size_t out_role_length,

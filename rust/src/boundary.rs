@@ -9,6 +9,8 @@
 
 use crate::{Pairs, Refusal, Results, Table, TableMut};
 
+const _: () = assert!(usize::BITS == 64, "the library's numbers have 64 bits");
+
 /// What the library answers. What a function doesn't use is 0; on a refusal all but the first
 /// two are 0.
 #[repr(C)]

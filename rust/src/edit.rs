@@ -9,7 +9,7 @@ use crate::{Refusal, Table};
 pub struct TableMut<'a> {
     /// Each row's key.
     pub key: &'a mut [usize],
-    /// How many rows stand below each row.
+    /// How many descendants each row has.
     pub size: &'a mut [usize],
     /// How deep each row stands.
     pub level: &'a mut [usize],
@@ -93,7 +93,7 @@ impl TableMut<'_> {
         self.edited(answer)
     }
 
-    /// Deletes the row with the key and all rows below it; later rows close up, and the rows
+    /// Deletes the row with the key and its descendants; later rows close up, and the rows
     /// that are freed at the end are zero. With its root a whole farm goes, but not the only one.
     ///
     /// ```

@@ -5,7 +5,7 @@ use crate::Table;
 
 /// The key of each row.
 pub const KEY: [usize; 10] = [10, 20, 21, 22, 23, 24, 30, 31, 32, 40];
-/// How many rows stand below each row.
+/// How many descendants each row has.
 pub const SIZE: [usize; 10] = [9, 4, 1, 0, 1, 0, 2, 1, 0, 0];
 /// How deep each row stands.
 pub const LEVEL: [usize; 10] = [0, 1, 2, 3, 2, 3, 1, 2, 3, 1];

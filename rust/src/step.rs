@@ -45,9 +45,9 @@ pub enum Axis {
     Itself = codes::AXIS_SELF,
     /// 2: the rows whose parent it is.
     Child = codes::AXIS_CHILD,
-    /// 3: the rows below it.
+    /// 3: its children, their children, and so on.
     Descendant = codes::AXIS_DESCENDANT,
-    /// 4: the row itself and the rows below it.
+    /// 4: the row itself and its descendants.
     DescendantOrSelf = codes::AXIS_DESCENDANT_OR_SELF,
     /// 5: its parent; a root has none.
     Parent = codes::AXIS_PARENT,
@@ -55,7 +55,7 @@ pub enum Axis {
     Ancestor = codes::AXIS_ANCESTOR,
     /// 7: the row itself and its ancestors.
     AncestorOrSelf = codes::AXIS_ANCESTOR_OR_SELF,
-    /// 8: the rows after it in its tree that are not below it.
+    /// 8: the rows after it in its tree that are not its descendants.
     Following = codes::AXIS_FOLLOWING,
     /// 9: the rows before it in its tree that are not its ancestors.
     Preceding = codes::AXIS_PRECEDING,

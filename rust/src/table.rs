@@ -10,22 +10,22 @@ use crate::Refusal;
 ///
 /// - level: how deep the row stands. 0 in row 0, in a later row from 0 to one more than in the row
 ///   before, at most 63. A row of level 0 is a root: it starts a tree, which goes on to the next root.
-/// - size: how many rows stand below it, which are those directly after it, without a break, whose
-///   level is greater than its own.
-/// - kind: 0 to 4, as [`codes`](crate::codes) names them. A document is a root; texts, comments and
-///   processing instructions have size 0.
+/// - size: how many descendants it has, which are the rows in use directly after it, without a
+///   break, whose level is greater than its own.
+/// - kind: 0 to 4, as [`codes`](crate::codes) names them. A document stands at level 0 only; texts,
+///   comments and processing instructions have size 0.
 /// - name: not 0 for an element or a processing instruction, otherwise 0.
 /// - key: not 0, and unlike the key of every earlier row, whatever the tree.
 ///
-/// Of the pairs of a [step](Table::step) those are *kept* that remain when equal ones count once and
-/// redundant ones are dropped, whatever the test: on axes 3 and 4 a pair is redundant when the same
-/// role holds a row above it, on axes 6 and 7 when it holds a row below it; on axes 8 and 9 one pair
-/// remains for each role and tree where it holds a row; on the other axes none is redundant.
+/// What a [step](Table::step) keeps are the distinct pairs that remain when redundant ones are
+/// dropped, whatever the test: on axes 3 and 4 a pair is redundant if the same role has a pair on an
+/// ancestor of its row, on 6 and 7 if on a descendant; on 8 and 9 one pair remains for each role and
+/// tree that holds one of its pairs; on the other axes none is redundant.
 #[derive(Clone, Copy, Debug, PartialEq, Eq)]
 pub struct Table<'a> {
     /// Each row's key.
     pub key: &'a [usize],
-    /// How many rows stand below each row.
+    /// How many descendants each row has.
     pub size: &'a [usize],
     /// How deep each row stands.
     pub level: &'a [usize],
@@ -33,12 +33,12 @@ pub struct Table<'a> {
     pub kind: &'a [usize],
     /// The name of an element or a processing instruction.
     pub name: &'a [usize],
-    /// How many rows are in use: 1 to 4,096.
+    /// How many rows are in use: 1 to 4,096, and at most as many as the shortest column has.
     pub count: usize,
 }
 
 impl Table<'_> {
-    /// Checks that the table is sound. Every other call does the same first.
+    /// Checks that the table is sound. Every other call that takes a table does the same first.
     ///
     /// ```
     /// use reach::{farm, Refusal, Table};
