@@ -3,7 +3,8 @@
 use crate::race::{Race, Times};
 use crate::report::{figure, Group};
 use crate::steps::{spread_pairs, ROWS};
-use crate::tables::{plant, scattered_key};
+use crate::tables::plant;
+use lent::scattered_key;
 
 /// A carry takes at most so many times what plain Rust takes.
 const BAR: f64 = 1.3;
@@ -38,8 +39,8 @@ pub struct Carry {
 
 /// The columns that a new list is written to.
 pub struct Room {
-    pub role: Vec<usize>,
-    pub row: Vec<usize>,
+    pub out_role: Vec<usize>,
+    pub out_row: Vec<usize>,
 }
 
 impl Carry {
@@ -93,7 +94,7 @@ fn shuffled_pairs(list: usize, pairs: usize) -> Vec<(usize, usize)> {
 
 /// Carries the lists by turns.
 fn time(race: &Race, carries: &[Carry]) -> Times {
-    let mut room = Room { role: vec![0; ROWS], row: vec![0; ROWS] };
+    let mut room = Room { out_role: vec![0; ROWS], out_row: vec![0; ROWS] };
     let mut turns = carries.iter().cycle();
     race.time(|engine| engine.carry(turns.next().expect("there is a list"), &mut room))
 }

@@ -2,7 +2,8 @@
 
 use crate::race::{Race, Times};
 use crate::report::{figure, Group};
-use crate::tables::{deep, flat, Columns};
+use crate::tables::{deep, flat};
+use lent::Columns;
 
 /// At 4,096 flat rows the check takes at most so many times what plain Rust takes.
 const CHECK_BAR: f64 = 1.3;
@@ -46,8 +47,8 @@ fn find(race: &Race) {
     for (name, shape) in SHAPES {
         for rows in [64, 512, 4_096] {
             let table = shape(rows);
-            let wanted = table.key[rows * 3 / 4];
-            let times = race.time(|engine| engine.find(&table, wanted));
+            let key_wanted = table.key[rows * 3 / 4];
+            let times = race.time(|engine| engine.find(&table, key_wanted));
             group.line(&format!("{rows} rows, {name}"), times);
         }
     }

@@ -2,7 +2,8 @@
 
 use crate::race::Race;
 use crate::report::Group;
-use crate::tables::{farms, plant, scattered_key, Columns};
+use crate::tables::{farms, plant, with_room};
+use lent::{scattered_key, Columns};
 
 /// The geometric mean of all edits against plain Rust with memmove, and the worst.
 const MEAN_BAR: f64 = 1.3;
@@ -19,24 +20,25 @@ const END: usize = 0;
 pub fn run(race: &Race) {
     let mut group = Group::new("edit, microseconds a call");
     for rows in [1, 500] {
-        let piece = piece(rows);
-        let start = plant(ROWS - rows).with_room(ROWS);
+        let count = ROWS - rows;
+        let (table, piece) = (plant(count), piece(rows));
+        let start = with_room(table.clone(), ROWS);
         for (place, parent) in [("near the front", FRONT), ("at the end", END)] {
-            let parent = start.key[parent];
-            let times =
-                race.time_edit(&start, |engine, table| engine.insert(table, parent, &piece));
+            let parent_key = table.key[parent];
+            let times = race
+                .time_edit(&start, |engine, table| engine.insert(table, count, parent_key, &piece));
             group.line(&format!("insert {rows} rows {place}"), times);
         }
         for (place, parent) in [("near the front", FRONT), ("at the end", END)] {
-            let full = with_piece(&start, parent, &piece);
-            let wanted = piece.key[0];
-            let times = race.time_edit(&full, |engine, table| engine.delete(table, wanted));
+            let full = with_piece(&table, parent, &piece);
+            let key_wanted = piece.key[0];
+            let times = race.time_edit(&full, |engine, table| engine.delete(table, key_wanted));
             group.line(&format!("delete {rows} rows {place}"), times);
         }
     }
     let full = plant(ROWS);
-    let wanted = full.key[ROWS / 2];
-    let times = race.time_edit(&full, |engine, table| engine.rename(table, wanted, 9));
+    let key_wanted = full.key[ROWS / 2];
+    let times = race.time_edit(&full, |engine, table| engine.rename(table, key_wanted, 9));
     group.line("rename", times);
     let nine = farms(9, 455);
     for (which, farm) in [("first", 0), ("last", 8)] {
@@ -55,26 +57,18 @@ fn piece(rows: usize) -> Columns {
 }
 
 /// The table with the piece under the parent: what a deletion starts from.
-fn with_piece(start: &Columns, parent: usize, piece: &Columns) -> Columns {
-    let gap = parent + start.size[parent] + 1;
-    let level = start.level[parent] + 1;
-    let raised: Vec<usize> = piece.level.iter().map(|own| own + level).collect();
-    let joined = |column: &[usize], piece: &[usize]| {
-        [&column[..gap], piece, &column[gap..start.count]].concat()
-    };
-    let mut size = joined(&start.size, &piece.size);
-    for (row, size) in size[..gap].iter_mut().enumerate() {
+fn with_piece(table: &Columns, parent: usize, piece: &Columns) -> Columns {
+    let gap = parent + table.size[parent] + 1;
+    let mut full = table.part(0..gap);
+    full.append(piece);
+    full.append(&table.part(gap..table.key.len()));
+    let rows = piece.key.len();
+    full.level[gap..gap + rows].iter_mut().for_each(|own| *own += table.level[parent] + 1);
+    for (row, size) in full.size[..=parent].iter_mut().enumerate() {
         // The parent and its ancestors are the rows that come to the gap.
-        if row <= parent && row + *size >= parent {
-            *size += piece.count;
+        if row + *size >= parent {
+            *size += rows;
         }
     }
-    Columns {
-        key: joined(&start.key, &piece.key),
-        size,
-        level: joined(&start.level, &raised),
-        kind: joined(&start.kind, &piece.kind),
-        name: joined(&start.name, &piece.name),
-        count: start.count + piece.count,
-    }
+    full
 }

@@ -2,57 +2,25 @@
 
 use crate::carries::{Carry, Room};
 use crate::steps::Step;
-use crate::tables::Columns;
+use lent::{lend, lend_mut, lend_pairs, lend_results, Columns};
 
 /// What both programs must answer alike: the refusal and the two numbers after it.
 pub type Seen = (usize, usize, usize);
 
-/// A program that can be timed.
+/// A program that can be timed. Every row is in use; only an insertion has spare rows, and so a
+/// count, for its table.
 pub trait Engine {
     fn check(&self, table: &Columns) -> Seen;
-    fn find(&self, table: &Columns, wanted: usize) -> Seen;
+    fn find(&self, table: &Columns, key_wanted: usize) -> Seen;
     fn step(&self, table: &Columns, step: &mut Step) -> Seen;
-    fn insert(&self, table: &mut Columns, parent: usize, piece: &Columns) -> Seen;
-    fn delete(&self, table: &mut Columns, wanted: usize) -> Seen;
-    fn rename(&self, table: &mut Columns, wanted: usize, new_name: usize) -> Seen;
+    fn insert(&self, table: &mut Columns, count: usize, parent_key: usize, piece: &Columns)
+        -> Seen;
+    fn delete(&self, table: &mut Columns, key_wanted: usize) -> Seen;
+    fn rename(&self, table: &mut Columns, key_wanted: usize, new_name: usize) -> Seen;
     fn carry(&self, carry: &Carry, room: &mut Room) -> Seen;
 }
 
-/// The columns as a table of a package.
-macro_rules! lend {
-    ($package:ident, $columns:expr) => {
-        $package::Table {
-            key: &$columns.key,
-            size: &$columns.size,
-            level: &$columns.level,
-            kind: &$columns.kind,
-            name: &$columns.name,
-            count: $columns.count,
-        }
-    };
-}
-
-/// The same, to be changed.
-macro_rules! lend_mut {
-    ($package:ident, $columns:expr) => {
-        $package::TableMut {
-            key: &mut $columns.key,
-            size: &mut $columns.size,
-            level: &mut $columns.level,
-            kind: &mut $columns.kind,
-            name: &mut $columns.name,
-            count: $columns.count,
-        }
-    };
-}
-
-/// The pairs of a step or a carry, as a package has them.
-macro_rules! lend_pairs {
-    ($package:ident, $call:expr) => {
-        $package::Pairs { role: &$call.role, row: &$call.row }
-    };
-}
-
+/// The numbers of an answer that both programs must give alike.
 macro_rules! seen {
     ($answer:expr) => {{
         let answer = $answer;
@@ -68,8 +36,8 @@ impl Engine for Plain {
         seen!(plain::check(&lend!(plain, table)))
     }
 
-    fn find(&self, table: &Columns, wanted: usize) -> Seen {
-        seen!(plain::find(&lend!(plain, table), wanted))
+    fn find(&self, table: &Columns, key_wanted: usize) -> Seen {
+        seen!(plain::find(&lend!(plain, table), key_wanted))
     }
 
     fn step(&self, table: &Columns, step: &mut Step) -> Seen {
@@ -77,20 +45,26 @@ impl Engine for Plain {
             &lend!(plain, table),
             &lend_pairs!(plain, step),
             plain::Question { axis: step.axis, test: step.test, test_name: step.test_name },
-            &mut plain::Results { role: &mut step.out_role, row: &mut step.out_row },
+            &mut lend_results!(plain, step),
         ))
     }
 
-    fn insert(&self, table: &mut Columns, parent: usize, piece: &Columns) -> Seen {
-        seen!(plain::insert(&mut lend_mut!(plain, table), parent, &lend!(plain, piece)))
+    fn insert(
+        &self,
+        table: &mut Columns,
+        count: usize,
+        parent_key: usize,
+        piece: &Columns,
+    ) -> Seen {
+        seen!(plain::insert(&mut lend_mut!(plain, table, count), parent_key, &lend!(plain, piece)))
     }
 
-    fn delete(&self, table: &mut Columns, wanted: usize) -> Seen {
-        seen!(plain::delete(&mut lend_mut!(plain, table), wanted))
+    fn delete(&self, table: &mut Columns, key_wanted: usize) -> Seen {
+        seen!(plain::delete(&mut lend_mut!(plain, table), key_wanted))
     }
 
-    fn rename(&self, table: &mut Columns, wanted: usize, new_name: usize) -> Seen {
-        seen!(plain::rename(&mut lend_mut!(plain, table), wanted, new_name))
+    fn rename(&self, table: &mut Columns, key_wanted: usize, new_name: usize) -> Seen {
+        seen!(plain::rename(&mut lend_mut!(plain, table), key_wanted, new_name))
     }
 
     fn carry(&self, carry: &Carry, room: &mut Room) -> Seen {
@@ -99,7 +73,7 @@ impl Engine for Plain {
             carry.old_count,
             carry.first,
             carry.moved,
-            &mut plain::Results { role: &mut room.role, row: &mut room.row },
+            &mut lend_results!(plain, room),
         ))
     }
 }
@@ -114,8 +88,8 @@ impl Engine for Library {
         seen!(reach::boundary::check(lend!(reach, table)))
     }
 
-    fn find(&self, table: &Columns, wanted: usize) -> Seen {
-        seen!(reach::boundary::find(lend!(reach, table), wanted))
+    fn find(&self, table: &Columns, key_wanted: usize) -> Seen {
+        seen!(reach::boundary::find(lend!(reach, table), key_wanted))
     }
 
     fn step(&self, table: &Columns, step: &mut Step) -> Seen {
@@ -125,20 +99,30 @@ impl Engine for Library {
             step.axis,
             step.test,
             step.test_name,
-            reach::Results { role: &mut step.out_role, row: &mut step.out_row },
+            lend_results!(reach, step),
         ))
     }
 
-    fn insert(&self, table: &mut Columns, parent: usize, piece: &Columns) -> Seen {
-        seen!(reach::boundary::insert(&mut lend_mut!(reach, table), parent, lend!(reach, piece)))
+    fn insert(
+        &self,
+        table: &mut Columns,
+        count: usize,
+        parent_key: usize,
+        piece: &Columns,
+    ) -> Seen {
+        seen!(reach::boundary::insert(
+            &mut lend_mut!(reach, table, count),
+            parent_key,
+            lend!(reach, piece)
+        ))
     }
 
-    fn delete(&self, table: &mut Columns, wanted: usize) -> Seen {
-        seen!(reach::boundary::delete(&mut lend_mut!(reach, table), wanted))
+    fn delete(&self, table: &mut Columns, key_wanted: usize) -> Seen {
+        seen!(reach::boundary::delete(&mut lend_mut!(reach, table), key_wanted))
     }
 
-    fn rename(&self, table: &mut Columns, wanted: usize, new_name: usize) -> Seen {
-        seen!(reach::boundary::rename(&mut lend_mut!(reach, table), wanted, new_name))
+    fn rename(&self, table: &mut Columns, key_wanted: usize, new_name: usize) -> Seen {
+        seen!(reach::boundary::rename(&mut lend_mut!(reach, table), key_wanted, new_name))
     }
 
     fn carry(&self, carry: &Carry, room: &mut Room) -> Seen {
@@ -147,7 +131,7 @@ impl Engine for Library {
             carry.old_count,
             carry.first,
             carry.moved,
-            reach::Results { role: &mut room.role, row: &mut room.row },
+            lend_results!(reach, room),
         ))
     }
 }

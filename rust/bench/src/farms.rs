@@ -22,7 +22,7 @@ pub fn run(race: &Race) {
 fn nine_farms(race: &Race) {
     let table = farms(9, 455);
     let mut group = Group::new("nine farms of 455 rows, microseconds a call");
-    let mut desk = Step::new(desk_pairs(0..table.count));
+    let mut desk = Step::new(desk_pairs(0..9 * 455));
     for axis in 1..=11 {
         let times = time(race, &table, desk.any_node(axis));
         group.line_with_bar(&format!("200 roles, 4,000 pairs, axis {axis}, any"), times, BAR);

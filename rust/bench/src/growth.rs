@@ -4,7 +4,8 @@ use crate::engine::Engine;
 use crate::race::Race;
 use crate::report::{figure, Group};
 use crate::steps::{desk_pairs, spread_pairs, time, Step, ROWS};
-use crate::tables::{farms, plant, Columns};
+use crate::tables::{farms, plant};
+use lent::Columns;
 
 /// How often both tables are measured by turns; the least time counts.
 const TURNS: usize = 5;
@@ -56,8 +57,9 @@ fn more_farms(race: &Race) {
     println!();
     println!("growth of the library's step, eight farms with 200 roles over four with 100");
     let tables = [farms(4, 512), farms(8, 512)];
-    let once = spread_pairs(100, 20, 0..tables[0].count);
-    let again = once.iter().map(|&(role, row)| (role + 100, row + tables[0].count));
+    let rows = tables[0].key.len();
+    let once = spread_pairs(100, 20, 0..rows);
+    let again = once.iter().map(|&(role, row)| (role + 100, row + rows));
     let mut steps = [once.clone(), once.iter().copied().chain(again).collect()].map(Step::new);
     for axis in 1..=11 {
         let mut least = [f64::INFINITY; 2];

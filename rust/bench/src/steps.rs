@@ -2,7 +2,8 @@
 
 use crate::race::{Race, Times};
 use crate::report::Group;
-use crate::tables::{plant, scattered_key, Columns};
+use crate::tables::plant;
+use lent::{scattered_key, Columns};
 use std::ops::Range;
 
 /// The geometric mean of all steps against plain Rust, and the worst.

@@ -1,33 +1,10 @@
 //! One call with everything that is lent to it.
 
+use lent::Columns;
 use std::fmt;
-
-/// The five columns of a table, as they are lent.
-#[derive(Clone, Debug, Default, PartialEq, Eq)]
-pub struct Columns {
-    pub key: Vec<usize>,
-    pub size: Vec<usize>,
-    pub level: Vec<usize>,
-    pub kind: Vec<usize>,
-    pub name: Vec<usize>,
-}
 
 /// The names of the five columns, in their order.
 const COLUMN_NAMES: [&str; 5] = ["key", "size", "level", "kind", "name"];
-
-impl Columns {
-    pub fn each(&self) -> [&Vec<usize>; 5] {
-        [&self.key, &self.size, &self.level, &self.kind, &self.name]
-    }
-
-    pub fn each_mut(&mut self) -> [&mut Vec<usize>; 5] {
-        [&mut self.key, &mut self.size, &mut self.level, &mut self.kind, &mut self.name]
-    }
-
-    pub fn shortest(&self) -> usize {
-        self.each().iter().map(|column| column.len()).fold(usize::MAX, usize::min)
-    }
-}
 
 /// A list of pairs, and the two columns that results are written to.
 #[derive(Clone, Debug, Default, PartialEq, Eq)]
@@ -82,7 +59,7 @@ pub struct Step {
 /// What an insertion lends beside the table.
 #[derive(Clone, Debug, Default, PartialEq, Eq)]
 pub struct Insert {
-    pub parent: usize,
+    pub parent_key: usize,
     pub piece: Columns,
     pub piece_count: usize,
 }
@@ -100,12 +77,25 @@ pub struct Carry {
 #[derive(Clone, Debug, PartialEq, Eq)]
 pub enum Call {
     Check,
-    Find { wanted: usize },
+    Find { key_wanted: usize },
     Step(Step),
     Insert(Insert),
-    Delete { wanted: usize },
-    Rename { wanted: usize, new_name: usize },
+    Delete { key_wanted: usize },
+    Rename { key_wanted: usize, new_name: usize },
     Carry(Carry),
+}
+
+impl Call {
+    /// The key by which the call names a row.
+    pub fn named_key(&self) -> Option<usize> {
+        match self {
+            Call::Find { key_wanted }
+            | Call::Delete { key_wanted }
+            | Call::Rename { key_wanted, .. } => Some(*key_wanted),
+            Call::Insert(insert) => Some(insert.parent_key),
+            Call::Check | Call::Step(_) | Call::Carry(_) => None,
+        }
+    }
 }
 
 /// A call, with the table it is about.
@@ -249,17 +239,17 @@ impl fmt::Display for Case {
         writeln!(out, "let count = {};", self.count)?;
         match &self.call {
             Call::Check => {}
-            Call::Find { wanted } | Call::Delete { wanted } => {
-                writeln!(out, "let wanted = {wanted};")?;
+            Call::Find { key_wanted } | Call::Delete { key_wanted } => {
+                writeln!(out, "let key_wanted = {key_wanted};")?;
             }
             Call::Step(Step { axis, test, test_name, .. }) => {
                 writeln!(out, "let (axis, test, test_name) = ({axis}, {test}, {test_name});")?;
             }
-            Call::Insert(Insert { parent, piece_count, .. }) => {
-                writeln!(out, "let (parent, piece_count) = ({parent}, {piece_count});")?;
+            Call::Insert(Insert { parent_key, piece_count, .. }) => {
+                writeln!(out, "let (parent_key, piece_count) = ({parent_key}, {piece_count});")?;
             }
-            Call::Rename { wanted, new_name } => {
-                writeln!(out, "let (wanted, new_name) = ({wanted}, {new_name});")?;
+            Call::Rename { key_wanted, new_name } => {
+                writeln!(out, "let (key_wanted, new_name) = ({key_wanted}, {new_name});")?;
             }
             Call::Carry(Carry { first, moved, .. }) => {
                 writeln!(out, "let (first, moved) = ({first}, {moved});")?;

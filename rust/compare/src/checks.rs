@@ -1,24 +1,27 @@
 //! Random calls of check and find.
 
-use crate::case::{Call, Case, Columns};
-use crate::damage::spoil;
+use crate::case::{Call, Case};
+use crate::damage::{repeat_key, spoil};
 use crate::judge::{Difference, Judge};
+use crate::keys::sharing_rows;
 use crate::options::Part;
 use crate::random::Random;
 use crate::series::{self, Series};
-use crate::tables::{add_spare_rows, lengthen, some_key, sound, sound_trees};
+use crate::tables::{add_spare_rows, lengthen, some_key, sound, sound_sharing, sound_trees};
+use lent::Columns;
 
 /// How many calls on small tables the default run makes.
 pub const CALLS: u64 = 300_000;
 
 /// Small tables, then tall ones about the deepest level, then large ones about the most rows and
-/// the most trees.
+/// the most trees, then some whose keys share buckets.
 pub fn run(judge: &mut Judge<'_>, seed: u64, calls: u64) -> Result<(), Difference> {
-    let all: [Series; 4] = [
+    let all: [Series; 5] = [
         ("check small", calls, small),
         ("check tall", calls / 8, tall),
         ("check large", calls / 300, large),
         ("check most trees", calls / 1_200, most_trees),
+        ("check shared buckets", calls / 60, shared_buckets),
     ];
     series::run(Part::Check, seed, &all, |_, case| judge.pose(case).map(drop))
 }
@@ -64,6 +67,25 @@ fn most_trees(random: &mut Random) -> Case {
     maybe_spoiled(random, table, rows)
 }
 
+/// A table whose keys share buckets, with a further key of these buckets in a spare row; another
+/// such key is nowhere.
+fn shared_buckets(random: &mut Random) -> Case {
+    let rows = sharing_rows(random);
+    let (mut table, others) = sound_sharing(random, rows, 2);
+    let (held, spare, missing) = (table.key[random.below(rows)], others[0], others[1]);
+    table.key.push(spare);
+    add_spare_rows(random, &mut table, 3);
+    let mut count = rows;
+    match random.below(10) {
+        0 => spoil(random, &mut table, &mut count),
+        1..=3 => repeat_key(random, &mut table, rows),
+        _ => {}
+    }
+    let key_wanted = random.pick(&[held, spare, missing]);
+    let call = if random.chance(40) { Call::Check } else { Call::Find { key_wanted } };
+    Case { table, count, call }
+}
+
 /// Half of the tables stay sound.
 fn maybe_spoiled(random: &mut Random, mut table: Columns, rows: usize) -> Case {
     let mut count = rows;
@@ -73,7 +95,7 @@ fn maybe_spoiled(random: &mut Random, mut table: Columns, rows: usize) -> Case {
     let call = if random.chance(40) {
         Call::Check
     } else {
-        Call::Find { wanted: some_key(random, &table, count) }
+        Call::Find { key_wanted: some_key(random, &table, count) }
     };
     Case { table, count, call }
 }

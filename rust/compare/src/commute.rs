@@ -135,13 +135,9 @@ impl Pair {
     }
 
     fn named_row(&self, edit: &Call) -> usize {
-        let wanted = match edit {
-            Call::Insert(insert) => insert.parent,
-            Call::Delete { wanted } | Call::Rename { wanted, .. } => *wanted,
-            _ => unreachable!("only edits are paired"),
-        };
+        let key_wanted = edit.named_key().expect("only edits are paired");
         let keys = &self.start.table.key[..self.start.count];
-        keys.iter().position(|&key| key == wanted).expect("the edit was accepted")
+        keys.iter().position(|&key| key == key_wanted).expect("the edit was accepted")
     }
 
     /// How many of the two edits delete a root.

@@ -1,7 +1,7 @@
 //! Ways to spoil a table.
 
-use crate::case::Columns;
 use crate::random::Random;
+use lent::Columns;
 
 /// Spoils one to three things, so that several refusals can apply at once. The table has at
 /// least `count` rows, and `count` is not 0.
@@ -46,6 +46,16 @@ fn spoil_row(random: &mut Random, table: &mut Columns, row: usize) {
             let other = random.below(table.shortest());
             table.key[row] = table.key[other];
         }
+    }
+}
+
+/// Gives one of the first `rows` rows the key of an earlier one: of the first, the one before, or
+/// any.
+pub fn repeat_key(random: &mut Random, table: &mut Columns, rows: usize) {
+    if rows > 1 {
+        let row = random.within(1, rows - 1);
+        let between = random.below(row);
+        table.key[row] = table.key[random.pick(&[0, row - 1, between])];
     }
 }
 

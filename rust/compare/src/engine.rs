@@ -1,6 +1,7 @@
 //! The programs that answer calls.
 
 use crate::case::{Answer, Call, Case};
+use lent::{lend, lend_mut, lend_pairs, lend_results};
 
 /// A program that answers a call and changes what is lent to it.
 pub trait Engine {
@@ -24,48 +25,6 @@ macro_rules! same_numbers {
     }};
 }
 
-/// A table of another package, lent to be read.
-macro_rules! lend {
-    ($table:ident, $columns:expr, $count:expr) => {
-        $table {
-            key: &$columns.key,
-            size: &$columns.size,
-            level: &$columns.level,
-            kind: &$columns.kind,
-            name: &$columns.name,
-            count: $count,
-        }
-    };
-}
-
-/// A table of another package, lent to be changed.
-macro_rules! lend_mut {
-    ($table:ident, $columns:expr, $count:expr) => {
-        $table {
-            key: &mut $columns.key,
-            size: &mut $columns.size,
-            level: &mut $columns.level,
-            kind: &mut $columns.kind,
-            name: &mut $columns.name,
-            count: $count,
-        }
-    };
-}
-
-/// Pairs of another package.
-macro_rules! lend_pairs {
-    ($pairs:ident, $lists:expr) => {
-        $pairs { role: &$lists.role, row: &$lists.row }
-    };
-}
-
-/// Result columns of another package.
-macro_rules! lend_results {
-    ($results:ident, $lists:expr) => {
-        $results { role: &mut $lists.out_role, row: &mut $lists.out_row }
-    };
-}
-
 /// A program whose package has the same functions over types of its own.
 macro_rules! engine {
     ($(#[$words:meta])* $program:ident, $package:ident) => {
@@ -78,33 +37,37 @@ macro_rules! engine {
             }
 
             fn answer(&self, case: &mut Case) -> Answer {
-                use $package::{Pairs, Question, Results, Table, TableMut};
+                use $package::Question;
                 let Case { table, count, call } = case;
                 let count = *count;
                 same_numbers!(match call {
-                    Call::Check => $package::check(&lend!(Table, table, count)),
-                    Call::Find { wanted } => $package::find(&lend!(Table, table, count), *wanted),
+                    Call::Check => $package::check(&lend!($package, table, count)),
+                    Call::Find { key_wanted } =>
+                        $package::find(&lend!($package, table, count), *key_wanted),
                     Call::Step(step) => $package::step(
-                        &lend!(Table, table, count),
-                        &lend_pairs!(Pairs, step.lists),
+                        &lend!($package, table, count),
+                        &lend_pairs!($package, step.lists),
                         Question { axis: step.axis, test: step.test, test_name: step.test_name },
-                        &mut lend_results!(Results, step.lists),
+                        &mut lend_results!($package, step.lists),
                     ),
                     Call::Insert(insert) => $package::insert(
-                        &mut lend_mut!(TableMut, table, count),
-                        insert.parent,
-                        &lend!(Table, insert.piece, insert.piece_count),
+                        &mut lend_mut!($package, table, count),
+                        insert.parent_key,
+                        &lend!($package, insert.piece, insert.piece_count),
                     ),
-                    Call::Delete { wanted } =>
-                        $package::delete(&mut lend_mut!(TableMut, table, count), *wanted),
-                    Call::Rename { wanted, new_name } =>
-                        $package::rename(&mut lend_mut!(TableMut, table, count), *wanted, *new_name),
+                    Call::Delete { key_wanted } =>
+                        $package::delete(&mut lend_mut!($package, table, count), *key_wanted),
+                    Call::Rename { key_wanted, new_name } => $package::rename(
+                        &mut lend_mut!($package, table, count),
+                        *key_wanted,
+                        *new_name,
+                    ),
                     Call::Carry(carry) => $package::carry(
-                        &lend_pairs!(Pairs, carry.lists),
+                        &lend_pairs!($package, carry.lists),
                         count,
                         carry.first,
                         carry.moved,
-                        &mut lend_results!(Results, carry.lists),
+                        &mut lend_results!($package, carry.lists),
                     ),
                 })
             }

@@ -6,9 +6,10 @@ mod edits;
 mod steps;
 mod two_farms;
 
-use crate::case::{Answer, Call, Case, Columns, Lists};
+use crate::case::{Answer, Call, Case, Lists};
 use crate::judge::{Difference, Judge};
 use crate::tables::chain;
+use lent::Columns;
 
 /// The small farm.
 pub fn farm() -> Columns {
@@ -49,7 +50,7 @@ fn checks(judge: &mut Judge<'_>) -> Result<(), Difference> {
         let case = Case { table, count, call };
         judge.pose_stated(name, case.clone(), stated, case)
     };
-    let find = |wanted: usize| Call::Find { wanted };
+    let find = |key_wanted: usize| Call::Find { key_wanted };
     unchanged("the farm is sound", farm(), 10, Call::Check, Answer::default())?;
     for (row, key) in farm().key.into_iter().enumerate() {
         let stated = Answer { first: row, ..Answer::default() };

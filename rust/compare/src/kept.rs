@@ -1,8 +1,9 @@
 //! Pairs that are kept for a table while it is edited. That a carried pair still names its key is
 //! looked up here, in the tables before and after the edit, and left to neither program.
 
-use crate::case::{Call, Carry, Case, Columns, Lists};
+use crate::case::{Call, Carry, Case, Lists};
 use crate::judge::{Difference, Judge};
+use lent::Columns;
 
 /// A table, and the pairs that are kept for it.
 pub struct Kept {

@@ -16,6 +16,7 @@ mod engine;
 mod farm;
 mod judge;
 mod kept;
+mod keys;
 mod lists;
 mod notes;
 mod options;

@@ -1,11 +1,13 @@
 //! What must come up in a run beside the refusals, so that a generator that drifts is noticed.
 
 mod carries;
+mod keys;
 mod trees;
 
 use crate::case::{Answer, Call, Case, Lists};
 use crate::options::Part;
 use carries::{CARRIES, CIRCLES};
+use keys::KEYS;
 use trees::TREES;
 
 const MOST_ROWS: usize = 4_096;
@@ -27,10 +29,10 @@ impl Note {
     }
 }
 
-/// All notes, in the order of the parts, and those about several trees.
+/// All notes, in the order of the parts, then those about several trees and about shared buckets.
 pub fn all() -> impl Iterator<Item = &'static Note> {
     let by_part = CHECKS.iter().chain(&LISTS).chain(&STEPS).chain(&EDITS);
-    by_part.chain(&CARRIES).chain(&CIRCLES).chain(&TREES)
+    by_part.chain(&CARRIES).chain(&CIRCLES).chain(&TREES).chain(&KEYS)
 }
 
 /// How many notes there are.
@@ -40,111 +42,113 @@ pub const COUNT: usize = CHECKS.len()
     + EDITS.len()
     + CARRIES.len()
     + CIRCLES.len()
-    + TREES.len();
+    + TREES.len()
+    + KEYS.len();
 
-const fn check(what: &'static str, least: u64, holds: Holds) -> Note {
-    Note { parts: &[Part::Check], what, least, holds }
-}
+/// The parts that notes are about.
+const CHECK: &[Part] = &[Part::Check];
+const STEP: &[Part] = &[Part::Step];
+const EDIT: &[Part] = &[Part::Edit];
+const CARRY: &[Part] = &[Part::Carry];
+const CIRCLE: &[Part] = &[Part::Circle];
+/// Those that pose lists of pairs, without an edit before.
+const LIST: &[Part] = &[Part::Step, Part::Carry];
+/// Those that pose one random table after the other.
+const TABLE: &[Part] = &[Part::Check, Part::Step, Part::Edit];
 
-const fn list(what: &'static str, least: u64, holds: Holds) -> Note {
-    Note { parts: &[Part::Step, Part::Carry], what, least, holds }
-}
-
-const fn step(what: &'static str, least: u64, holds: Holds) -> Note {
-    Note { parts: &[Part::Step], what, least, holds }
-}
-
-const fn edit(what: &'static str, least: u64, holds: Holds) -> Note {
-    Note { parts: &[Part::Edit], what, least, holds }
+const fn note(parts: &'static [Part], what: &'static str, least: u64, holds: Holds) -> Note {
+    Note { parts, what, least, holds }
 }
 
 static CHECKS: [Note; 10] = [
-    check("count 0", 1_000, |case, _| case.count == 0),
-    check("a count above the shortest column", 1_000, |case, _| {
+    note(CHECK, "count 0", 1_000, |case, _| case.count == 0),
+    note(CHECK, "a count above the shortest column", 1_000, |case, _| {
         case.count <= MOST_ROWS && case.count > case.table.shortest()
     }),
-    check("columns of differing length", 1_000, |case, _| {
+    note(CHECK, "columns of differing length", 1_000, |case, _| {
         case.table.each().iter().any(|column| column.len() > case.table.shortest())
     }),
-    check("spare rows in every column, accepted", 1_000, |case, answer| {
+    note(CHECK, "spare rows in every column, accepted", 1_000, |case, answer| {
         answer.refusal == 0 && case.table.shortest() > case.count
     }),
-    check("4,096 rows, accepted", 50, |case, answer| {
+    note(CHECK, "4,096 rows, accepted", 50, |case, answer| {
         answer.refusal == 0 && case.count == MOST_ROWS
     }),
-    check("4,097 rows that are all there", 50, |case, _| {
+    note(CHECK, "4,097 rows that are all there", 50, |case, _| {
         case.count == MOST_ROWS + 1 && case.table.shortest() > MOST_ROWS
     }),
-    check("level 63, accepted", 500, |case, answer| {
+    note(CHECK, "level 63, accepted", 500, |case, answer| {
         answer.refusal == 0 && case.table.level[..case.count].contains(&63)
     }),
-    check("level 64 in the least unsound row", 500, |case, answer| {
+    note(CHECK, "level 64 in the least unsound row", 500, |case, answer| {
         answer.refusal == 2 && case.table.level[answer.place] == 64
     }),
-    check("the largest key, accepted", 1_000, |case, answer| {
+    note(CHECK, "the largest key, accepted", 1_000, |case, answer| {
         answer.refusal == 0 && case.table.key[..case.count].contains(&usize::MAX)
     }),
-    check("key 0 in the least unsound row", 1_000, |case, answer| {
+    note(CHECK, "key 0 in the least unsound row", 1_000, |case, answer| {
         answer.refusal == 2 && case.table.key[answer.place] == 0
     }),
 ];
 
 /// Lists of pairs and room for results, in steps and in carries.
 static LISTS: [Note; 9] = [
-    list("no pairs, accepted", 1_000, |case, answer| {
+    note(LIST, "no pairs, accepted", 1_000, |case, answer| {
         answer.refusal == 0 && lists_of(case).row.is_empty()
     }),
-    list("4,096 pairs, accepted", 50, |case, answer| {
+    note(LIST, "4,096 pairs, accepted", 50, |case, answer| {
         answer.refusal == 0 && lists_of(case).row.len() == MOST_PAIRS
     }),
-    list("too many pairs in columns of equal length", 50, |case, answer| {
+    note(LIST, "too many pairs in columns of equal length", 50, |case, answer| {
         answer.refusal == 3 && lists_of(case).row.len() == lists_of(case).role.len()
     }),
-    list("equal pairs, accepted", 1_000, |case, answer| {
+    note(LIST, "equal pairs, accepted", 1_000, |case, answer| {
         let pairs = |place: usize| (lists_of(case).role[place], lists_of(case).row[place]);
         answer.refusal == 0 && (1..lists_of(case).row.len()).any(|at| pairs(at) == pairs(at - 1))
     }),
-    list("empty result columns, refused", 1_000, |case, answer| {
+    note(LIST, "empty result columns, refused", 1_000, |case, answer| {
         answer.refusal == 8 && lists_of(case).room() == 0
     }),
-    list("result columns too short by one", 1_000, |case, answer| {
+    note(LIST, "result columns too short by one", 1_000, |case, answer| {
         answer.refusal == 8 && lists_of(case).room() + 1 == answer.place
     }),
-    list("result columns exactly filled", 1_000, |case, answer| {
+    note(LIST, "result columns exactly filled", 1_000, |case, answer| {
         answer.refusal == 0 && answer.first > 0 && answer.first == lists_of(case).room()
     }),
-    list("result columns with room to spare", 1_000, |case, answer| {
+    note(LIST, "result columns with room to spare", 1_000, |case, answer| {
         answer.refusal == 0 && answer.first > 0 && answer.first < lists_of(case).room()
     }),
-    list("result columns of unequal length", 1_000, |case, _| {
+    note(LIST, "result columns of unequal length", 1_000, |case, _| {
         lists_of(case).out_role.len() != lists_of(case).out_row.len()
     }),
 ];
 
 static STEPS: [Note; 2] = [
-    step("more than 1,000 roles, accepted", 50, |case, answer| {
+    note(STEP, "more than 1,000 roles, accepted", 50, |case, answer| {
         answer.refusal == 0 && lists_of(case).role.chunk_by(usize::eq).count() > 1_000
     }),
-    step("more than 100,000 results", 30, |_, answer| answer.first.max(answer.place) > 100_000),
+    note(STEP, "more than 100,000 results", 30, |_, answer| {
+        answer.first.max(answer.place) > 100_000
+    }),
 ];
 
 static EDITS: [Note; 6] = [
-    edit("4,096 rows exactly reached", 50, |case, answer| {
+    note(EDIT, "4,096 rows exactly reached", 50, |case, answer| {
         answer.first == MOST_ROWS && answer.moved > 0 && case.count < MOST_ROWS
     }),
-    edit("4,096 rows passed by one", 50, |case, answer| {
+    note(EDIT, "4,096 rows passed by one", 50, |case, answer| {
         answer.refusal == 14 && case.count + piece_rows(case) == MOST_ROWS + 1
     }),
-    edit("no spare row in some column", 1_000, |case, answer| {
+    note(EDIT, "no spare row in some column", 1_000, |case, answer| {
         answer.refusal == 14 && case.table.shortest() == case.count
     }),
-    edit("one row too little in some column", 1_000, |case, answer| {
+    note(EDIT, "one row too little in some column", 1_000, |case, answer| {
         answer.refusal == 14 && case.count + piece_rows(case) == case.table.shortest() + 1
     }),
-    edit("insertion at the very end", 1_000, |case, answer| {
+    note(EDIT, "insertion at the very end", 1_000, |case, answer| {
         answer.moved > 0 && answer.second == case.count
     }),
-    edit("deletion at the very end", 1_000, |case, answer| {
+    note(EDIT, "deletion at the very end", 1_000, |case, answer| {
         answer.moved < 0 && answer.second == case.count
     }),
 ];

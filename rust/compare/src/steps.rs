@@ -1,6 +1,6 @@
 //! Random steps.
 
-use crate::case::{Call, Case, Columns, Step};
+use crate::case::{Call, Case, Step};
 use crate::damage::spoil;
 use crate::judge::{Difference, Judge};
 use crate::lists::{few_pairs, lend_some_room, pose_twice, some_pairs};
@@ -8,6 +8,7 @@ use crate::options::Part;
 use crate::random::Random;
 use crate::series::{self, Series};
 use crate::tables::{add_spare_rows, sound, sound_trees};
+use lent::Columns;
 
 /// How many calls on small tables the default run makes.
 pub const CALLS: u64 = 400_000;

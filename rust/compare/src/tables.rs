@@ -1,7 +1,8 @@
 //! Random sound tables, and the spare rows behind them.
 
-use crate::case::Columns;
-use crate::random::{scatter, Random};
+use crate::keys::{sharing_keys, some_keys};
+use crate::random::Random;
+use lent::{sizes, Columns};
 use std::iter::once;
 
 /// The ways a tree can look.
@@ -42,7 +43,14 @@ pub fn sound_trees(random: &mut Random, rows: usize, trees: usize, deepest: usiz
     let size = sizes(&level);
     let kind = kinds(random, &roots, &size);
     let name = kind.iter().map(|&kind| name_for(random, kind)).collect();
-    Columns { key: keys(random, rows), size, level, kind, name }
+    Columns { key: some_keys(random, rows), size, level, kind, name }
+}
+
+/// A sound table of so many rows whose keys share buckets, and so many other keys of these buckets.
+pub fn sound_sharing(random: &mut Random, rows: usize, others: usize) -> (Columns, Vec<usize>) {
+    let mut key = sharing_keys(random, rows + others, rows);
+    let others = key.split_off(rows);
+    (Columns { key, ..sound(random, rows, 63) }, others)
 }
 
 /// Where the trees start: anywhere, or all but the last are of one row, or all but the first.
@@ -85,12 +93,6 @@ fn next_level(random: &mut Random, shape: Shape, before: usize, deepest: usize) 
     }
 }
 
-/// The sizes that belong to the levels.
-fn sizes(level: &[usize]) -> Vec<usize> {
-    let run = |row: usize| level[row + 1..].iter().take_while(move |&&other| other > level[row]);
-    (0..level.len()).map(|row| run(row).count()).collect()
-}
-
 /// Kinds that fit the sizes; now and then a root is a document.
 fn kinds(random: &mut Random, roots: &[usize], size: &[usize]) -> Vec<usize> {
     let mut kinds: Vec<usize> = size
@@ -115,25 +117,6 @@ fn name_for(random: &mut Random, kind: usize) -> usize {
         },
         _ => 0,
     }
-}
-
-/// Keys that differ, in one of several patterns: some of them have all their low bits equal,
-/// some all their high bits.
-fn keys(random: &mut Random, rows: usize) -> Vec<usize> {
-    let pattern = random.below(6);
-    let start = random.number() as u64;
-    let mut keys: Vec<usize> = (0..rows)
-        .map(|row| match pattern {
-            0 => row + 1,
-            1 => 2 * row + 1,
-            2 => usize::MAX - row,
-            3 => (row + 1) << 13,
-            4 => (row + 1) << 48,
-            _ => (scatter(start.wrapping_add(row as u64)) as usize).max(1),
-        })
-        .collect();
-    random.shuffle(&mut keys);
-    keys
 }
 
 /// A root among the first `count` rows of a sound table.

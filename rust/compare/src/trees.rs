@@ -1,7 +1,7 @@
 //! A step over several trees lists what steps on the trees list, each of them a table of its own,
 //! and keeps as many pairs as they do. This is put together here and left to neither program.
 
-use crate::case::{Call, Case, Columns, Lists, Step};
+use crate::case::{Call, Case, Lists, Step};
 use crate::judge::{Difference, Judge};
 use crate::lists::ascending_pairs;
 use crate::options::Part;
@@ -9,6 +9,7 @@ use crate::progress::Progress;
 use crate::random::Random;
 use crate::steps::good_question;
 use crate::tables::sound_trees;
+use lent::Columns;
 use std::ops::Range;
 
 /// How many steps over several trees the default run makes.
@@ -74,8 +75,7 @@ impl Whole {
 
     /// The step on these rows alone, with their pairs and with room for every row of every pair.
     fn part(&self, rows: Range<usize>) -> Case {
-        let mut table = self.table.clone();
-        table.each_mut().into_iter().for_each(|column| *column = column[rows.clone()].to_vec());
+        let table = self.table.part(rows.clone());
         let pairs = self.step.lists.role.iter().zip(&self.step.lists.row);
         let (role, row): (Vec<usize>, Vec<usize>) = pairs
             .filter(|(_, row)| rows.contains(row))

@@ -24,18 +24,18 @@ pub struct TableMut<'a> {
 }
 
 /// Makes the piece the last child of the row with the key: refusals 1, 2 and 9 to 14.
-pub fn insert(table: &mut TableMut<'_>, parent: usize, piece: &Table<'_>) -> Answer {
-    by_rows!(table.count, insert_by(table, parent, piece))
+pub fn insert(table: &mut TableMut<'_>, parent_key: usize, piece: &Table<'_>) -> Answer {
+    by_rows!(table.count, insert_by(table, parent_key, piece))
 }
 
 /// Deletes the row with the key and what is below it: refusals 1, 2, 9 and 15.
-pub fn delete(table: &mut TableMut<'_>, wanted: usize) -> Answer {
-    by_rows!(table.count, delete_by(table, wanted))
+pub fn delete(table: &mut TableMut<'_>, key_wanted: usize) -> Answer {
+    by_rows!(table.count, delete_by(table, key_wanted))
 }
 
 /// Gives the row with the key another name: refusals 1, 2, 9 and 16.
-pub fn rename(table: &mut TableMut<'_>, wanted: usize, new_name: usize) -> Answer {
-    let found = crate::find(&table.as_lent(), wanted);
+pub fn rename(table: &mut TableMut<'_>, key_wanted: usize, new_name: usize) -> Answer {
+    let found = crate::find(&table.as_lent(), key_wanted);
     if found.refusal != 0 {
         return found;
     }
@@ -49,19 +49,19 @@ pub fn rename(table: &mut TableMut<'_>, wanted: usize, new_name: usize) -> Answe
 
 fn insert_by<const SLOTS: usize>(
     table: &mut TableMut<'_>,
-    parent: usize,
+    parent_key: usize,
     piece: &Table<'_>,
 ) -> Answer {
     let (mut keys, mut up) = (Keys::<SLOTS>::new(), [0; MOST_ROWS]);
-    match gap_for(&table.as_lent(), parent, piece, &mut keys, &mut up) {
+    match gap_for(&table.as_lent(), parent_key, piece, &mut keys, &mut up) {
         Ok((parent, piece)) => table.open_gap(parent, &piece, &up),
         Err(refused) => refused,
     }
 }
 
-fn delete_by<const SLOTS: usize>(table: &mut TableMut<'_>, wanted: usize) -> Answer {
+fn delete_by<const SLOTS: usize>(table: &mut TableMut<'_>, key_wanted: usize) -> Answer {
     let (mut keys, mut up) = (Keys::<SLOTS>::new(), [0; MOST_ROWS]);
-    match row_of_key(&table.as_lent(), wanted, &mut keys, &mut up) {
+    match row_of_key(&table.as_lent(), key_wanted, &mut keys, &mut up) {
         // The only root: with all that is below it, it is the whole table.
         Ok((rows, row)) if rows.size[row] + 1 == rows.count() => Answer::refused(15, 0),
         Ok((_, row)) => table.close_gap(row, &up),
@@ -73,7 +73,7 @@ fn delete_by<const SLOTS: usize>(table: &mut TableMut<'_>, wanted: usize) -> Ans
 #[inline(always)]
 fn row_of_key<'a, const SLOTS: usize>(
     table: &Table<'a>,
-    wanted: usize,
+    key_wanted: usize,
     keys: &mut Keys<SLOTS>,
     up: &mut Up,
 ) -> Result<(Rows<'a>, usize), Answer> {
@@ -81,7 +81,7 @@ fn row_of_key<'a, const SLOTS: usize>(
     if let Some(row) = first_unsound_with_parents(&rows, keys, up) {
         return Err(Answer::refused(2, row));
     }
-    let row = keys.row_of(rows.key, wanted).ok_or(Answer::refused(9, 0))?;
+    let row = keys.row_of(rows.key, key_wanted).ok_or(Answer::refused(9, 0))?;
     Ok((rows, row))
 }
 
@@ -89,12 +89,12 @@ fn row_of_key<'a, const SLOTS: usize>(
 #[inline(always)]
 fn gap_for<'p, const SLOTS: usize>(
     table: &Table<'_>,
-    parent: usize,
+    parent_key: usize,
     piece: &Table<'p>,
     keys: &mut Keys<SLOTS>,
     up: &mut Up,
 ) -> Result<(usize, Rows<'p>), Answer> {
-    let (rows, parent) = row_of_key(table, parent, keys, up)?;
+    let (rows, parent) = row_of_key(table, parent_key, keys, up)?;
     let piece = sound_piece(piece).ok_or(Answer::refused(10, 0))?;
     if rows.kind[parent] > 1 {
         return Err(Answer::refused(11, parent));

@@ -32,12 +32,12 @@ impl<const SLOTS: usize> Keys<SLOTS> {
 
     /// The row that has the key.
     #[inline]
-    pub fn row_of(&self, key: &[usize], wanted: usize) -> Option<usize> {
-        let mut slot = Self::own_slot(wanted);
+    pub fn row_of(&self, key: &[usize], key_wanted: usize) -> Option<usize> {
+        let mut slot = Self::own_slot(key_wanted);
         loop {
             match self.slots[slot] {
                 0 => return None,
-                entry if key[usize::from(entry) - 1] == wanted => {
+                entry if key[usize::from(entry) - 1] == key_wanted => {
                     return Some(usize::from(entry) - 1)
                 }
                 _ => slot = (slot + 1) % SLOTS,

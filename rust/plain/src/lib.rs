@@ -54,19 +54,19 @@ fn check_rows<const SLOTS: usize>(rows: &Rows<'_>) -> Answer {
 }
 
 /// Finds the row of a key: refusals 1, 2 and 9.
-pub fn find(table: &Table<'_>, wanted: usize) -> Answer {
+pub fn find(table: &Table<'_>, key_wanted: usize) -> Answer {
     let Some(rows) = table.rows_in_use() else {
         return Answer::refused(1, 0);
     };
-    by_rows!(rows.count(), find_row(&rows, wanted))
+    by_rows!(rows.count(), find_row(&rows, key_wanted))
 }
 
-fn find_row<const SLOTS: usize>(rows: &Rows<'_>, wanted: usize) -> Answer {
+fn find_row<const SLOTS: usize>(rows: &Rows<'_>, key_wanted: usize) -> Answer {
     let mut keys = Keys::<SLOTS>::new();
     if let Some(row) = check::first_unsound(rows, &mut keys) {
         return Answer::refused(2, row);
     }
-    match keys.row_of(rows.key, wanted) {
+    match keys.row_of(rows.key, key_wanted) {
         Some(row) => Answer { first: row, ..Answer::default() },
         None => Answer::refused(9, 0),
     }

@@ -90,10 +90,10 @@ impl Pipe {
 fn arguments(call: &Call) -> [usize; 3] {
     match call {
         Call::Check => [0, 0, 0],
-        Call::Find { wanted } | Call::Delete { wanted } => [*wanted, 0, 0],
+        Call::Find { key_wanted } | Call::Delete { key_wanted } => [*key_wanted, 0, 0],
         Call::Step(step) => [step.axis, step.test, step.test_name],
-        Call::Insert(insert) => [insert.parent, insert.piece_count, 0],
-        Call::Rename { wanted, new_name } => [*wanted, *new_name, 0],
+        Call::Insert(insert) => [insert.parent_key, insert.piece_count, 0],
+        Call::Rename { key_wanted, new_name } => [*key_wanted, *new_name, 0],
         Call::Carry(carry) => [carry.first, carry.moved as usize, 0],
     }
 }

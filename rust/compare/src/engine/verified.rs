@@ -2,7 +2,8 @@
 
 use super::Engine;
 use crate::case::{Answer, Call, Case};
-use reach::{boundary, Pairs, Results, Table, TableMut};
+use lent::{lend, lend_mut, lend_pairs, lend_results};
+use reach::boundary;
 
 pub struct Library;
 
@@ -15,31 +16,31 @@ impl Engine for Library {
         let Case { table, count, call } = case;
         let count = *count;
         same_numbers!(match call {
-            Call::Check => boundary::check(lend!(Table, table, count)),
-            Call::Find { wanted } => boundary::find(lend!(Table, table, count), *wanted),
+            Call::Check => boundary::check(lend!(reach, table, count)),
+            Call::Find { key_wanted } => boundary::find(lend!(reach, table, count), *key_wanted),
             Call::Step(step) => boundary::step(
-                lend!(Table, table, count),
-                lend_pairs!(Pairs, step.lists),
+                lend!(reach, table, count),
+                lend_pairs!(reach, step.lists),
                 step.axis,
                 step.test,
                 step.test_name,
-                lend_results!(Results, step.lists),
+                lend_results!(reach, step.lists),
             ),
             Call::Insert(insert) => boundary::insert(
-                &mut lend_mut!(TableMut, table, count),
-                insert.parent,
-                lend!(Table, insert.piece, insert.piece_count),
+                &mut lend_mut!(reach, table, count),
+                insert.parent_key,
+                lend!(reach, insert.piece, insert.piece_count),
             ),
-            Call::Delete { wanted } =>
-                boundary::delete(&mut lend_mut!(TableMut, table, count), *wanted),
-            Call::Rename { wanted, new_name } =>
-                boundary::rename(&mut lend_mut!(TableMut, table, count), *wanted, *new_name),
+            Call::Delete { key_wanted } =>
+                boundary::delete(&mut lend_mut!(reach, table, count), *key_wanted),
+            Call::Rename { key_wanted, new_name } =>
+                boundary::rename(&mut lend_mut!(reach, table, count), *key_wanted, *new_name),
             Call::Carry(carry) => boundary::carry(
-                lend_pairs!(Pairs, carry.lists),
+                lend_pairs!(reach, carry.lists),
                 count,
                 carry.first,
                 carry.moved,
-                lend_results!(Results, carry.lists),
+                lend_results!(reach, carry.lists),
             ),
         })
     }

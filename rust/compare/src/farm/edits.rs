@@ -1,9 +1,10 @@
 //! The stated edits: M9, M10 and M11, and each refusal of an edit.
 
 use super::farm;
-use crate::case::{Answer, Call, Case, Columns, Insert};
+use crate::case::{Answer, Call, Case, Insert};
 use crate::judge::{Difference, Judge};
 use crate::tables::chain;
+use lent::Columns;
 
 /// What the one spare row holds.
 pub const SPARE: usize = 77;
@@ -21,16 +22,16 @@ pub fn setpoint() -> Columns {
 }
 
 fn m9() -> Call {
-    Call::Delete { wanted: 21 }
+    Call::Delete { key_wanted: 21 }
 }
 
 fn m10() -> Call {
     insert(31, setpoint())
 }
 
-pub fn insert(parent: usize, piece: Columns) -> Call {
+pub fn insert(parent_key: usize, piece: Columns) -> Call {
     let piece_count = piece.key.len();
-    Call::Insert(Insert { parent, piece, piece_count })
+    Call::Insert(Insert { parent_key, piece, piece_count })
 }
 
 pub fn accepted(count: usize, first_moved: usize, moved: i64) -> Answer {
@@ -87,7 +88,7 @@ fn both_orders(
 
 /// At the very end nothing moves, but the answer still says by how much.
 fn at_the_end(judge: &mut Judge<'_>) -> Result<(), Difference> {
-    let start = Case { table: farm_with_room(), count: 10, call: Call::Delete { wanted: 40 } };
+    let start = Case { table: farm_with_room(), count: 10, call: Call::Delete { key_wanted: 40 } };
     let mut after = start.clone();
     after.table.each_mut().into_iter().for_each(|column| column[9] = 0);
     after.table.size[0] = 8;
@@ -100,8 +101,11 @@ fn at_the_end(judge: &mut Judge<'_>) -> Result<(), Difference> {
     after.table.size[0] = 10;
     judge.pose_stated("insert at the end", start, accepted(11, 10, 1), after)?;
 
-    let start =
-        Case { table: farm_with_room(), count: 10, call: Call::Rename { wanted: 31, new_name: 9 } };
+    let start = Case {
+        table: farm_with_room(),
+        count: 10,
+        call: Call::Rename { key_wanted: 31, new_name: 9 },
+    };
     let mut after = start.clone();
     after.table.name[7] = 9;
     judge.pose_stated("rename", start, accepted(10, 10, 0), after)
@@ -109,7 +113,7 @@ fn at_the_end(judge: &mut Judge<'_>) -> Result<(), Difference> {
 
 /// Each refusal of an edit, with its place; nothing changes.
 fn refusals(judge: &mut Judge<'_>) -> Result<(), Difference> {
-    let rename = |wanted: usize, new_name: usize| Call::Rename { wanted, new_name };
+    let rename = |key_wanted: usize, new_name: usize| Call::Rename { key_wanted, new_name };
     let long = Columns {
         key: vec![50, 51],
         size: vec![1, 0],
@@ -119,7 +123,7 @@ fn refusals(judge: &mut Judge<'_>) -> Result<(), Difference> {
     };
     let cases = [
         ("no such key", insert(99, setpoint()), Answer::refused(9, 0)),
-        ("key 0", Call::Delete { wanted: 0 }, Answer::refused(9, 0)),
+        ("key 0", Call::Delete { key_wanted: 0 }, Answer::refused(9, 0)),
         ("an empty piece", insert(31, Columns::default()), Answer::refused(10, 0)),
         (
             "a document as piece",
@@ -139,7 +143,7 @@ fn refusals(judge: &mut Judge<'_>) -> Result<(), Difference> {
             Answer::refused(13, 1),
         ),
         ("no room", insert(31, long), Answer::refused(14, 0)),
-        ("delete the only root", Call::Delete { wanted: 10 }, Answer::refused(15, 0)),
+        ("delete the only root", Call::Delete { key_wanted: 10 }, Answer::refused(15, 0)),
         ("rename a comment", rename(40, 5), Answer::refused(16, 9)),
         ("rename to 0", rename(31, 0), Answer::refused(16, 7)),
     ];

@@ -1,8 +1,9 @@
 //! The stated steps: M1 to M8, and the steps among the other stated cases.
 
 use super::{farm, farm_lists};
-use crate::case::{Answer, Call, Case, Columns, Lists, Step};
+use crate::case::{Answer, Call, Case, Lists, Step};
 use crate::judge::{Difference, Judge};
+use lent::Columns;
 
 /// A step on the farm with the results and the kept count that are stated for it.
 struct Stated {

@@ -11,8 +11,9 @@
 
 use super::edits::{accepted, insert, setpoint, SPARE};
 use super::{farm, farm_lists};
-use crate::case::{Answer, Call, Carry, Case, Columns, Lists, Step};
+use crate::case::{Answer, Call, Carry, Case, Lists, Step};
 use crate::judge::{Difference, Judge};
+use lent::Columns;
 
 type List = &'static [(usize, usize)];
 
@@ -102,9 +103,7 @@ fn second_farm() -> Columns {
 /// The columns one after the other, and then so many rows that hold the one number.
 fn joined(parts: &[Columns], (number, rows): (usize, usize)) -> Columns {
     let mut all = Columns::default();
-    for part in parts {
-        all.each_mut().into_iter().zip(part.each()).for_each(|(all, part)| all.extend(part));
-    }
+    parts.iter().for_each(|part| all.append(part));
     all.each_mut().into_iter().for_each(|column| column.resize(column.len() + rows, number));
     all
 }
@@ -180,13 +179,13 @@ fn deletions(judge: &mut Judge<'_>) -> Result<(), Difference> {
         ("delete the first root", 10, accepted(5, 10, -10), without_first.clone()),
         ("delete the last root", 60, accepted(10, 15, -5), without_second.clone()),
     ];
-    for (name, wanted, answer, table) in cases {
-        let start = on_farms(Call::Delete { wanted });
+    for (name, key_wanted, answer, table) in cases {
+        let start = on_farms(Call::Delete { key_wanted });
         let after = Case { table, ..start.clone() };
         judge.pose_stated(name, start, answer, after)?;
     }
-    for (wanted, table, count) in [(60, without_first, 5), (10, without_second, 10)] {
-        let only = Case { table, count, call: Call::Delete { wanted } };
+    for (key_wanted, table, count) in [(60, without_first, 5), (10, without_second, 10)] {
+        let only = Case { table, count, call: Call::Delete { key_wanted } };
         unchanged(judge, "delete the only root", only, Answer::refused(15, 0))?;
     }
     Ok(())
@@ -224,7 +223,7 @@ fn insertions(judge: &mut Judge<'_>) -> Result<(), Difference> {
 
 /// The first root is deleted, and a setpoint comes in under key 62, in either order.
 fn either_order(judge: &mut Judge<'_>) -> Result<(), Difference> {
-    let delete = Call::Delete { wanted: 10 };
+    let delete = Call::Delete { key_wanted: 10 };
     let grown = Columns {
         key: vec![60, 61, 62, 63, 50, 70],
         size: vec![5, 3, 2, 0, 0, 0],

@@ -1,37 +1,27 @@
 //! What must come up about several trees in one table.
 
-use super::{lists_of, Holds, Note, MOST_ROWS};
+use super::{lists_of, note, Note, CHECK, CIRCLE, EDIT, MOST_ROWS, STEP, TABLE};
 use crate::case::{Answer, Call, Case, Step};
 use crate::engine::{Engine, Second};
 use crate::options::Part;
 
-const fn note(parts: &'static [Part], what: &'static str, least: u64, holds: Holds) -> Note {
-    Note { parts, what, least, holds }
-}
-
-const CHECK: &[Part] = &[Part::Check];
-const STEP: &[Part] = &[Part::Step];
-const EDIT: &[Part] = &[Part::Edit];
-const CIRCLE: &[Part] = &[Part::Circle];
 const TREE: &[Part] = &[Part::Trees];
-/// The parts that pose one random table after the other.
-const ANY: &[Part] = &[Part::Check, Part::Step, Part::Edit];
 const DELETE: &[Part] = &[Part::Edit, Part::Circle];
 
 pub static TREES: [Note; 24] = [
-    note(ANY, "one tree of several rows, accepted", 1_000, |case, answer| {
+    note(TABLE, "one tree of several rows, accepted", 1_000, |case, answer| {
         answer.refusal == 0 && case.count > 1 && trees(case) == 1
     }),
-    note(ANY, "several trees, accepted", 1_000, |case, answer| {
+    note(TABLE, "several trees, accepted", 1_000, |case, answer| {
         answer.refusal == 0 && trees(case) > 1
     }),
-    note(ANY, "12 trees in a small table, accepted", 1_000, |case, answer| {
+    note(TABLE, "12 trees in a small table, accepted", 1_000, |case, answer| {
         answer.refusal == 0 && case.count == 12 && trees(case) == 12
     }),
-    note(ANY, "4,096 trees, accepted", 50, |case, answer| {
+    note(TABLE, "4,096 trees, accepted", 50, |case, answer| {
         answer.refusal == 0 && case.count == MOST_ROWS && trees(case) == MOST_ROWS
     }),
-    note(ANY, "a document at a later root, accepted", 1_000, |case, answer| {
+    note(TABLE, "a document at a later root, accepted", 1_000, |case, answer| {
         answer.refusal == 0 && case.table.kind[1..case.count].contains(&0)
     }),
     note(CHECK, "a document below a root in the least unsound row", 1_000, |case, answer| {
@@ -148,12 +138,8 @@ fn roles_over_trees(case: &Case) -> usize {
 
 /// The row that a call names by its key.
 fn named_row(case: &Case) -> Option<usize> {
-    let key = match &case.call {
-        Call::Insert(insert) => insert.parent,
-        Call::Delete { wanted } => *wanted,
-        _ => return None,
-    };
-    case.table.key[..case.count].iter().position(|&other| other == key)
+    let key_wanted = case.call.named_key()?;
+    case.table.key[..case.count].iter().position(|&key| key == key_wanted)
 }
 
 /// The root that an accepted deletion deletes.

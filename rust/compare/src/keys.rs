@@ -1,0 +1,97 @@
+//! Keys that differ, in one of several patterns. The library looks a key up among those of its
+//! bucket, which have the same remainder, so some patterns bring many keys into one bucket.
+
+use crate::random::Random;
+use lent::scattered_key;
+
+/// The numbers of buckets that the library has: for few rows, for more, and for up to the most.
+const BUCKETS: [usize; 3] = [241, 2_029, 16_381];
+
+/// How many it has for so many rows in use.
+pub fn buckets(rows: usize) -> usize {
+    match rows {
+        0..=64 => BUCKETS[0],
+        65..=512 => BUCKETS[1],
+        _ => BUCKETS[2],
+    }
+}
+
+/// Keys that are so far apart share a bucket, however many buckets there are.
+pub const APART_IN_ALL: usize = BUCKETS[0] * BUCKETS[1] * BUCKETS[2];
+
+/// With more rows a shared bucket takes the library long. The checks and the edits pose such
+/// tables on purpose; no other table becomes one by chance.
+const MOST_SHARING: usize = 512;
+
+/// Keys in one of several patterns: some have all their low bits equal, some all their high bits,
+/// and some share buckets.
+pub fn some_keys(random: &mut Random, rows: usize) -> Vec<usize> {
+    if rows <= MOST_SHARING && random.chance(25) {
+        return sharing_keys(random, rows, rows);
+    }
+    let pattern = random.below(6);
+    let start = random.number();
+    let mut keys: Vec<usize> = (0..rows)
+        .map(|row| match pattern {
+            0 => row + 1,
+            1 => 2 * row + 1,
+            2 => usize::MAX - row,
+            3 => (row + 1) << 13,
+            4 => (row + 1) << 48,
+            _ => scattered_key(start.wrapping_add(row)),
+        })
+        .collect();
+    random.shuffle(&mut keys);
+    keys
+}
+
+/// So many keys for a table of so many rows, in one bucket or in a few neighbouring ones: mostly
+/// of as many buckets as the table has, else of another number of them, or of all three numbers.
+pub fn sharing_keys(random: &mut Random, keys: usize, rows: usize) -> Vec<usize> {
+    let (own, [few, some, most]) = (buckets(rows), BUCKETS);
+    let apart = random.pick(&[own, own, few, some, most, APART_IN_ALL]);
+    let in_use = random.pick(&[1, 1, 2, 7]);
+    let mut keys: Vec<usize> =
+        (0..keys).map(|number| number / in_use * apart + number % in_use).collect();
+    let largest = keys.iter().copied().max().unwrap_or(0);
+    let start = match random.below(3) {
+        0 => random.within(1, apart),
+        1 => usize::MAX - largest,
+        _ => random.within(1, usize::MAX - largest),
+    };
+    keys.iter_mut().for_each(|key| *key += start);
+    random.shuffle(&mut keys);
+    keys
+}
+
+/// So many rows for a table whose keys share buckets: mostly few, now and then as many as one of
+/// the numbers of buckets is just for, or up to the most.
+pub fn sharing_rows(random: &mut Random) -> usize {
+    match random.below(32) {
+        0 => 4_096,
+        1 | 2 => random.within(513, 4_096),
+        3 | 4 => random.pick(&[64, 65, 512, 513]),
+        5..=10 => random.within(65, 512),
+        _ => random.within(1, 64),
+    }
+}
+
+#[cfg(test)]
+mod tests {
+    use super::{sharing_keys, BUCKETS};
+    use crate::random::Random;
+    use std::collections::HashSet;
+
+    #[test]
+    fn keys_that_share_buckets_differ_and_are_not_0() {
+        for number in 0..300 {
+            let random = &mut Random::for_call(1, "keys", number);
+            let rows = random.within(60, 4_096);
+            let keys = sharing_keys(random, rows, rows);
+            let distinct: HashSet<usize> = keys.iter().copied().collect();
+            assert!(distinct.len() == rows && !distinct.contains(&0));
+            let in_use = |buckets: usize| keys.iter().map(|key| key % buckets).collect();
+            assert!(BUCKETS.map(in_use).iter().any(|in_use: &HashSet<usize>| in_use.len() <= 7));
+        }
+    }
+}

@@ -1,0 +1,11 @@
+//! Columns that are lent to a program under test, and how they are filled: what the comparisons
+//! and the benchmark share.
+
+#![forbid(unsafe_code)]
+
+mod columns;
+mod lend;
+mod scatter;
+
+pub use columns::{sizes, Columns};
+pub use scatter::scattered_key;
