@@ -5,7 +5,8 @@
 //! A table is five columns of numbers, one row for each node in document order, and a count of
 //! the rows in use. Nothing is copied: the library reads and writes the slices that are lent to
 //! it. Whatever the numbers are, a call either does all of what it says or is refused with a
-//! [`Refusal`] and leaves every column as it was. A call needs less than 128 KB of stack.
+//! [`Refusal`] and leaves every column as it was. A call needs less than 128 KB of stack. All rules
+//! stand in `docs/RULES.md` at the root of the repository; what a sound table is, [`Table`] says.
 //!
 //! ```
 //! use reach::{Refusal, Table};
