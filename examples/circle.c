@@ -7,11 +7,13 @@
 #define FARM COLUMN(key), COLUMN(size), COLUMN(level), COLUMN(kind), COLUMN(name), count
 #define HELD(pairs) (pairs)->role, (pairs)->length, (pairs)->row, (pairs)->length
 
+enum { E = REACH_KIND_ELEMENT, C = REACH_KIND_COMMENT };
+
 /* The farm of the first call, with a spare row. */
 static size_t key[] = {10, 20, 21, 22, 23, 24, 30, 31, 32, 40, 0};
 static size_t size[] = {9, 4, 1, 0, 1, 0, 2, 1, 0, 0, 0};
 static size_t level[] = {0, 1, 2, 3, 2, 3, 1, 2, 3, 1, 0};
-static size_t kind[] = {1, 1, 1, 1, 1, 1, 1, 1, 1, 3, 0};
+static size_t kind[] = {E, E, E, E, E, E, E, E, E, C, 0};
 static size_t name[] = {1, 2, 3, 4, 3, 4, 2, 3, 4, 0, 0};
 static size_t count = 10;
 
@@ -69,7 +71,7 @@ int main(void)
     show("key 21 deleted", &grants);
 
     /* The blade with the key 23 gets a second setpoint. The second turbine moves down by one row. */
-    const size_t p_key[] = {50}, p_size[] = {0}, p_level[] = {0}, p_kind[] = {1}, p_name[] = {4};
+    const size_t p_key[] = {50}, p_size[] = {0}, p_level[] = {0}, p_kind[] = {E}, p_name[] = {4};
     grants = carried(&grants, accepted(reach_insert(FARM, 23, COLUMN(p_key), COLUMN(p_size), COLUMN(p_level),
                                                     COLUMN(p_kind), COLUMN(p_name), 1)));
     show("key 50 inserted", &grants);

@@ -7,11 +7,13 @@
 #define FARMS COLUMN(key), COLUMN(size), COLUMN(level), COLUMN(kind), COLUMN(name), count
 #define HELD(pairs) (pairs)->role, (pairs)->length, (pairs)->row, (pairs)->length
 
+enum { E = REACH_KIND_ELEMENT };
+
 /* A farm (name 1) of two turbines (2) with a setpoint (4) each, and another one behind it. */
 static size_t key[] = {10, 20, 22, 30, 32, 50, 60, 62, 70, 72};
 static size_t size[] = {4, 1, 0, 1, 0, 4, 1, 0, 1, 0};
 static size_t level[] = {0, 1, 2, 1, 2, 0, 1, 2, 1, 2};
-static size_t kind[] = {1, 1, 1, 1, 1, 1, 1, 1, 1, 1};
+static size_t kind[] = {E, E, E, E, E, E, E, E, E, E};
 static size_t name[] = {1, 2, 4, 2, 4, 1, 2, 4, 2, 4};
 static size_t count = 10;
 

@@ -46,7 +46,7 @@
 extern "C" {
 #endif
 
-/* The library's size_t has 64 bits; where the compiler's has fewer, this array has no length. */
+/* The library's numbers have 64 bits; where size_t has another number of them, this array has no length. */
 typedef char reach_size_t_has_64_bits[sizeof(size_t) == 8 ? 1 : -1];
 
 /* The version of this header: 0.4.0, as the major number times 10,000, the minor times 100 and the third together. */

@@ -1,46 +1,50 @@
 /*
- * On Arm only: the compiled library is handed the place for its answer as a first pointer, as x86-64's calling rules have it. There
- * its functions are called reach_check_at and so on; those here have the names and shapes of the header, and hand the answer on as
- * Arm's rules want it.
+ * On Arm only: the compiled library is handed the place for its answer as a first pointer, as x86-64's calling rules
+ * have it. There its functions are called reach_check_at and so on; those here have the names and shapes of the
+ * header, and hand the answer on as Arm's rules want it.
  */
 #include "reach.h"
 
 #define IN const size_t *
 #define OUT size_t *
-#define TABLE(to)                                                                                                                 \
-    to key, size_t key_length, to size, size_t size_length, to level, size_t level_length, to kind, size_t kind_length, to name, \
-        size_t name_length, size_t count
-#define PASSED_TABLE key, key_length, size, size_length, level, level_length, kind, kind_length, name, name_length, count
-#define PIECE                                                                                                    \
-    IN p_key, size_t p_key_length, IN p_size, size_t p_size_length, IN p_level, size_t p_level_length, IN p_kind, \
-        size_t p_kind_length, IN p_name, size_t p_name_length, size_t p_count
-#define PASSED_PIECE \
-    p_key, p_key_length, p_size, p_size_length, p_level, p_level_length, p_kind, p_kind_length, p_name, p_name_length, p_count
-#define PAIRS IN role, size_t role_length, IN row, size_t row_length
-#define PASSED_PAIRS role, role_length, row, row_length
-#define RESULTS OUT out_role, size_t out_role_length, OUT out_row, size_t out_row_length
-#define PASSED_RESULTS out_role, out_role_length, out_row, out_row_length
 
+#define TABLE(to)                                                                                            \
+    to key, size_t key_length, to size, size_t size_length, to level, size_t level_length, to kind,          \
+        size_t kind_length, to name, size_t name_length, size_t count
+#define PIECE                                                                                                \
+    IN p_key, size_t p_key_length, IN p_size, size_t p_size_length, IN p_level, size_t p_level_length,       \
+        IN p_kind, size_t p_kind_length, IN p_name, size_t p_name_length, size_t p_count
+#define PAIRS IN role, size_t role_length, IN row, size_t row_length
 #define CODES size_t axis, size_t test, size_t test_name
-#define PASSED_CODES axis, test, test_name
 #define MOVE size_t old_count, size_t first, int64_t moved
-#define PASSED_MOVE old_count, first, moved
+#define RESULTS OUT out_role, size_t out_role_length, OUT out_row, size_t out_row_length
+
+/* The same by name alone, as they are passed on. */
+#define TABLE_ON \
+    key, key_length, size, size_length, level, level_length, kind, kind_length, name, name_length, count
+#define PIECE_ON                                                                                             \
+    p_key, p_key_length, p_size, p_size_length, p_level, p_level_length, p_kind, p_kind_length, p_name,      \
+        p_name_length, p_count
+#define PAIRS_ON role, role_length, row, row_length
+#define CODES_ON axis, test, test_name
+#define MOVE_ON old_count, first, moved
+#define RESULTS_ON out_role, out_role_length, out_row, out_row_length
 
 /* The function NAME of the header, by NAME_at of the compiled library. */
-#define HANDED_ON(name, parameters, passed)                 \
-    reach_answer *name##_at(reach_answer *, UNPACK parameters); \
-    reach_answer name(UNPACK parameters)                    \
-    {                                                       \
-        reach_answer answer;                                \
-        name##_at(&answer, UNPACK passed);                  \
-        return answer;                                      \
+#define HANDED_ON(name, parameters, passed)                         \
+    reach_answer *name##_at(reach_answer *, UNPACK parameters);     \
+    reach_answer name(UNPACK parameters)                            \
+    {                                                               \
+        reach_answer answer;                                        \
+        name##_at(&answer, UNPACK passed);                          \
+        return answer;                                              \
     }
 #define UNPACK(...) __VA_ARGS__
 
-HANDED_ON(reach_check, (TABLE(IN)), (PASSED_TABLE))
-HANDED_ON(reach_find, (TABLE(IN), size_t key_wanted), (PASSED_TABLE, key_wanted))
-HANDED_ON(reach_step, (TABLE(IN), PAIRS, CODES, RESULTS), (PASSED_TABLE, PASSED_PAIRS, PASSED_CODES, PASSED_RESULTS))
-HANDED_ON(reach_insert, (TABLE(OUT), size_t parent_key, PIECE), (PASSED_TABLE, parent_key, PASSED_PIECE))
-HANDED_ON(reach_delete, (TABLE(OUT), size_t key_wanted), (PASSED_TABLE, key_wanted))
-HANDED_ON(reach_rename, (TABLE(OUT), size_t key_wanted, size_t new_name), (PASSED_TABLE, key_wanted, new_name))
-HANDED_ON(reach_carry, (PAIRS, MOVE, RESULTS), (PASSED_PAIRS, PASSED_MOVE, PASSED_RESULTS))
+HANDED_ON(reach_check, (TABLE(IN)), (TABLE_ON))
+HANDED_ON(reach_find, (TABLE(IN), size_t key_wanted), (TABLE_ON, key_wanted))
+HANDED_ON(reach_step, (TABLE(IN), PAIRS, CODES, RESULTS), (TABLE_ON, PAIRS_ON, CODES_ON, RESULTS_ON))
+HANDED_ON(reach_insert, (TABLE(OUT), size_t parent_key, PIECE), (TABLE_ON, parent_key, PIECE_ON))
+HANDED_ON(reach_delete, (TABLE(OUT), size_t key_wanted), (TABLE_ON, key_wanted))
+HANDED_ON(reach_rename, (TABLE(OUT), size_t key_wanted, size_t new_name), (TABLE_ON, key_wanted, new_name))
+HANDED_ON(reach_carry, (PAIRS, MOVE, RESULTS), (PAIRS_ON, MOVE_ON, RESULTS_ON))

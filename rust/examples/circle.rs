@@ -1,5 +1,6 @@
 //! The whole circle: grants are kept while the farm is edited, and each step takes them as they are.
 
+use reach::codes::{KIND_COMMENT as C, KIND_ELEMENT as E};
 use reach::{Axis, Pairs, Refusal, Results, Table, TableMut, Test};
 
 fn main() -> Result<(), Refusal> {
@@ -8,7 +9,7 @@ fn main() -> Result<(), Refusal> {
         key: &mut [10, 20, 21, 22, 23, 24, 30, 31, 32, 40, 0],
         size: &mut [9, 4, 1, 0, 1, 0, 2, 1, 0, 0, 0],
         level: &mut [0, 1, 2, 3, 2, 3, 1, 2, 3, 1, 0],
-        kind: &mut [1, 1, 1, 1, 1, 1, 1, 1, 1, 3, 0],
+        kind: &mut [E, E, E, E, E, E, E, E, E, C, 0],
         name: &mut [1, 2, 3, 4, 3, 4, 2, 3, 4, 0, 0],
         count: 10,
     };
@@ -24,7 +25,7 @@ fn main() -> Result<(), Refusal> {
     show("key 21 deleted", farm.as_table(), grants)?;
 
     // The blade with the key 23 gets a second setpoint. The second turbine moves down by one row.
-    let setpoint = Table { key: &[50], size: &[0], level: &[0], kind: &[1], name: &[4], count: 1 };
+    let setpoint = Table { key: &[50], size: &[0], level: &[0], kind: &[E], name: &[4], count: 1 };
     let inserted = farm.insert(23, setpoint)?;
     let (mut role, mut row) = ([0; 3], [0; 3]);
     let length = grants.carry(&inserted, Results { role: &mut role, row: &mut row })?;

@@ -1,5 +1,6 @@
 //! Two farms in one table: no step leaves a farm, and a farm goes with its root.
 
+use reach::codes::KIND_ELEMENT;
 use reach::{Axis, Pairs, Refusal, Results, Table, TableMut, Test};
 
 fn main() -> Result<(), Refusal> {
@@ -8,7 +9,7 @@ fn main() -> Result<(), Refusal> {
         key: &mut [10, 20, 22, 30, 32, 50, 60, 62, 70, 72],
         size: &mut [4, 1, 0, 1, 0, 4, 1, 0, 1, 0],
         level: &mut [0, 1, 2, 1, 2, 0, 1, 2, 1, 2],
-        kind: &mut [1; 10],
+        kind: &mut [KIND_ELEMENT; 10],
         name: &mut [1, 2, 4, 2, 4, 1, 2, 4, 2, 4],
         count: 10,
     };

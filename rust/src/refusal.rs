@@ -4,9 +4,10 @@ use crate::codes;
 use std::error::Error;
 use std::fmt;
 
-/// The seventeen reasons to refuse a call. Where several apply, the one of the lowest number is
-/// given, but number 17 before number 8; and every column that was lent is unchanged. Later versions
-/// may have further reasons, so a `match` needs an arm for the rest.
+/// Why a call was refused: one of seventeen reasons, or one that this wrapper has no name for. Where
+/// several apply, the one of the lowest number is given, but number 17 before number 8; and every
+/// column that was lent is unchanged. Later versions may have further reasons, so a `match` needs an
+/// arm for the rest.
 ///
 /// ```
 /// use reach::Refusal;
@@ -209,8 +210,8 @@ impl fmt::Display for Refusal {
             ),
             Refusal::Unlisted { number, place } => write!(
                 out,
-                "the library refused the call with number {number}, place {place}, which this \
-                 wrapper has no name for: the library is newer"
+                "the call was refused with number {number}, place {place}, which this wrapper has no \
+                 name for: is the library newer?"
             ),
         }
     }

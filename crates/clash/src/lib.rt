@@ -67,7 +67,8 @@ fn clash_in(
     i
 }
 
-// The same in columns of its own, as `keys::first_key` has them, in time linear in both.
+// The same in columns of its own, as `keys::first_key` has them, in time linear in both where keys spread over the
+// buckets.
 fn clash_by_chains(key: &[usize], n: usize, piece: &[usize], m: usize) -> usize
     requires { ⌜ (n ≤ 4096) × (n ≤ length (now key)) ⌝ }
     requires { ⌜ m ≤ length (now piece) ⌝ }

@@ -3,7 +3,7 @@
 use crate::race::{Race, Times};
 use crate::report::{figure, Group};
 use crate::tables::{deep, flat};
-use lent::Columns;
+use lent::{buckets, Columns};
 
 /// At 4,096 flat rows the check takes at most so many times what plain Rust takes.
 const CHECK_BAR: f64 = 1.3;
@@ -28,6 +28,7 @@ pub fn run(race: &Race) {
         }
     }
     group.mean();
+    one_bucket(race);
     find(race);
     println!();
     println!("growth of the library's check");
@@ -40,6 +41,17 @@ pub fn run(race: &Race) {
 
 fn check_time(race: &Race, table: &Columns) -> Times {
     race.time(|engine| engine.check(table))
+}
+
+/// The keys that the library's check is slowest on: all in one of its buckets, so that it compares
+/// each with all before it. For plain Rust they are keys like others. No bar is held to it.
+fn one_bucket(race: &Race) {
+    let mut group = Group::new("check of keys that share a bucket of the library");
+    for rows in [64, 512, 4_096] {
+        let key = (1..=rows).map(|number| number * buckets(rows)).collect();
+        let times = check_time(race, &Columns { key, ..flat(rows) });
+        group.line(&format!("{rows} rows, flat"), times);
+    }
 }
 
 fn find(race: &Race) {

@@ -1,20 +1,9 @@
-//! Keys that differ, in one of several patterns. The library looks a key up among those of its
-//! bucket, which have the same remainder, so some patterns bring many keys into one bucket.
+//! Keys that differ, in one of several patterns. To see whether a key is repeated, or taken by a
+//! piece, the library compares it with those of its bucket, which have the same remainder. So some
+//! patterns bring many keys into one bucket.
 
 use crate::random::Random;
-use lent::scattered_key;
-
-/// The numbers of buckets that the library has: for few rows, for more, and for up to the most.
-const BUCKETS: [usize; 3] = [241, 2_029, 16_381];
-
-/// How many it has for so many rows in use.
-pub fn buckets(rows: usize) -> usize {
-    match rows {
-        0..=64 => BUCKETS[0],
-        65..=512 => BUCKETS[1],
-        _ => BUCKETS[2],
-    }
-}
+use lent::{buckets, scattered_key, BUCKETS};
 
 /// Keys that are so far apart share a bucket, however many buckets there are.
 pub const APART_IN_ALL: usize = BUCKETS[0] * BUCKETS[1] * BUCKETS[2];
@@ -64,8 +53,8 @@ pub fn sharing_keys(random: &mut Random, keys: usize, rows: usize) -> Vec<usize>
     keys
 }
 
-/// So many rows for a table whose keys share buckets: mostly few, now and then as many as one of
-/// the numbers of buckets is just for, or up to the most.
+/// So many rows for a table whose keys share buckets: mostly few, now and then at the edge between
+/// two numbers of buckets, or up to the most.
 pub fn sharing_rows(random: &mut Random) -> usize {
     match random.below(32) {
         0 => 4_096,
@@ -78,8 +67,9 @@ pub fn sharing_rows(random: &mut Random) -> usize {
 
 #[cfg(test)]
 mod tests {
-    use super::{sharing_keys, BUCKETS};
+    use super::sharing_keys;
     use crate::random::Random;
+    use lent::BUCKETS;
     use std::collections::HashSet;
 
     #[test]

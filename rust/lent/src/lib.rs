@@ -3,9 +3,11 @@
 
 #![forbid(unsafe_code)]
 
+mod buckets;
 mod columns;
 mod lend;
 mod scatter;
 
+pub use buckets::{buckets, BUCKETS};
 pub use columns::{sizes, Columns};
 pub use scatter::scattered_key;

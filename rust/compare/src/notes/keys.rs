@@ -2,7 +2,8 @@
 
 use super::{note, Note, CHECK, EDIT, MOST_ROWS, TABLE};
 use crate::case::{Answer, Call, Case, Insert};
-use crate::keys::{buckets, APART_IN_ALL};
+use crate::keys::APART_IN_ALL;
+use lent::buckets;
 use std::collections::HashSet;
 use std::ops::RangeInclusive;
 
@@ -30,7 +31,7 @@ pub static KEYS: [Note; 16] = [
             && case.count == MOST_ROWS
             && (2..=OTHERS).contains(&filled().collect::<HashSet<_>>().len())
     }),
-    note(CHECK, "all keys in one bucket of any number of them", 100, |case, answer| {
+    note(CHECK, "all keys in one bucket, however many buckets there are", 100, |case, answer| {
         answer.refusal == 0 && share_a_bucket(keys(case), APART_IN_ALL)
     }),
     note(CHECK, "the same with the largest key", 20, |case, answer| {
@@ -85,8 +86,8 @@ fn accepts_one_bucket(case: &Case, answer: Answer, rows: RangeInclusive<usize>) 
     answer.refusal == 0 && rows.contains(&case.count) && shared()
 }
 
-/// Whether a row before `end` has the key, and many rows between them have keys of its bucket:
-/// those that the library looks at first.
+/// Whether a row before `end` has the key, and many rows between them have keys of its bucket: those
+/// that the library looks at first where it looks for a repeated key or for one that is taken.
 fn comes_before_others(case: &Case, key: usize, end: usize) -> bool {
     let row = case.table.key[..end].iter().position(|&other| other == key);
     row.is_some_and(|row| beside(case, key, &case.table.key[row + 1..end]) >= OTHERS)

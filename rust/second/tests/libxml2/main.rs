@@ -34,7 +34,7 @@ fn main() -> ExitCode {
             ExitCode::SUCCESS
         }
         Err(difference) => {
-            println!("libxml2: {difference}");
+            println!("libxml2: {difference} ({version})");
             ExitCode::FAILURE
         }
     }

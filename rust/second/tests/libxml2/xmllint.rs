@@ -2,7 +2,6 @@
 
 use std::fs::{self, File};
 use std::io;
-use std::iter;
 use std::path::Path;
 use std::process::{self, Command};
 
@@ -16,8 +15,9 @@ pub fn version() -> Option<String> {
     (tried == [vec![7], vec![7, 8]]).then_some(version)
 }
 
-/// For each query its node set, as the list of the nodes' rows in document order. Nodes without a
-/// row are left out; the document node has one where it is part of the tree.
+/// For each query its node set, as the list of the nodes' rows. They ascend, which is document order;
+/// a node set itself has none. Nodes without a row are left out; the document node has one where it
+/// is part of the tree.
 pub fn answers(
     document: &str,
     document_row: Option<usize>,
@@ -26,21 +26,16 @@ pub fn answers(
     let printed = printed(document, queries)?;
     // Each node set starts with these words, an empty one too.
     let sets = printed.split("Object is a Node Set").skip(1);
-    Ok(sets.map(|set| rows(set, document_row)).collect())
+    sets.map(|set| rows(set, document_row)).collect()
 }
 
 /// What the shell of `xmllint` prints. It takes its commands from a file, so that neither program
 /// waits for the other.
-///
-/// It starts with the document and then loads it again: of the document that it starts with, it
-/// prints a text, a comment or an instruction before what is inside the element in front of it. A
-/// document that is loaded comes in document order.
 fn printed(document: &str, queries: &[&str]) -> io::Result<String> {
     let folder = Path::new(env!("CARGO_TARGET_TMPDIR"));
     let [tree, commands] =
         ["xml", "commands"].map(|end| format!("libxml2-{}.{end}", process::id()));
-    let lines = queries.iter().map(|query| format!("xpath {query}\n"));
-    let lines: String = iter::once(format!("load {tree}\n")).chain(lines).collect();
+    let lines: String = queries.iter().map(|query| format!("xpath {query}\n")).collect();
     fs::write(folder.join(&tree), document)?;
     fs::write(folder.join(&commands), lines)?;
     let output = Command::new("xmllint")
@@ -55,11 +50,13 @@ fn printed(document: &str, queries: &[&str]) -> io::Result<String> {
 
 /// The rows in a node set. Below the line of an element, a text, a comment or an instruction comes
 /// its row as a content; the line of the document node has its number in the set and a slash.
-fn rows(set: &str, document_row: Option<usize>) -> Vec<usize> {
+fn rows(set: &str, document_row: Option<usize>) -> io::Result<Vec<usize>> {
     let row = |line: &str| match line.trim_start().strip_prefix("content=") {
-        Some(content) => Some(content.parse().expect("every content is a row")),
-        None if line.ends_with(" /") => document_row,
+        Some(content) => Some(content.parse().map_err(io::Error::other)),
+        None if line.ends_with(" /") => document_row.map(Ok),
         None => None,
     };
-    set.lines().filter_map(row).collect()
+    let mut rows: Vec<usize> = set.lines().filter_map(row).collect::<io::Result<_>>()?;
+    rows.sort_unstable();
+    Ok(rows)
 }
