@@ -46,7 +46,7 @@ fn check_time(race: &Race, table: &Columns) -> Times {
 /// The keys that the library's check is slowest on: all in one of its buckets, so that it compares
 /// each with all before it. For plain Rust they are keys like others. No bar is held to it.
 fn one_bucket(race: &Race) {
-    let mut group = Group::new("check of keys that share a bucket of the library");
+    let mut group = Group::new("check, keys in one bucket of the library");
     for rows in [64, 512, 4_096] {
         let key = (1..=rows).map(|number| number * buckets(rows)).collect();
         let times = check_time(race, &Columns { key, ..flat(rows) });
