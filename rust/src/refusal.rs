@@ -76,7 +76,7 @@ pub enum Refusal {
     /// 17: no edit answers these numbers: the first moved row is 0 or above the old count, or falls
     /// below 0 once the move is added, or the new count would lie outside 1 to 4,096.
     BadMove,
-    /// A number that this wrapper has no name for, since the library that is linked is newer.
+    /// A number that this wrapper has no name for, as a newer library may give.
     Unlisted {
         /// The refusal's number.
         number: usize,

@@ -1,5 +1,4 @@
-// The library's answers as one struct for C, and its version. Refusal 0 is acceptance; what an answer does not use is
-// 0.
+// The library's version, and its answers as one struct for C: refusal 0 is acceptance, and what is not used is 0.
 ghost use mathlib.Core.Path.{_≡_};
 ghost use Rattle.answer.specs.Answer.{accepted, refused, checkAnswer, findAnswer, stepAnswer, editAnswer};
 ghost use Rattle.answer.specs.Answer.{carryAnswer};
