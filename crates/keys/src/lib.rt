@@ -2,19 +2,38 @@
 // for none: `heads` has for each bucket a link to its last row, `next` for each row a link to the row before it in its
 // bucket.
 ghost use mathlib.Core.Path.{_≡_};
-ghost use Prim.Native.Nat.{_<_, _≤_};
+ghost use mathlib.Core.Bool.{false};
+ghost use Prim.Native.Nat.{ℕ, _<_, _≤_};
 ghost use lib.ListN.{length};
 ghost use lib.Dec.{eqb};
+ghost use Rattle.tree.specs.Table.{at};
 ghost use Rattle.tree.specs.Sound.{rowOf};
 ghost use Rattle.keys.specs.FirstKey.{firstKey};
 ghost use Rattle.keys.specs.Chain.{bucketOf, ChainRoom, Chained};
+use basics::one_of;
+
+// A row before which none has the key x, from which on it is worth a look at each of the first n rows: eight at a time,
+// in a third of the time.
+fn past_eights(key: &[usize], n: usize, x: usize) -> usize
+    requires { ⌜ n ≤ length (now key) ⌝ }
+    ensures { λ r. ⌜ (r ≤ n) × ((j : ℕ) → j < r → eqb (at (now (key .entry)) j) x ≡ false) ⌝ }
+{
+    let mut k = 0;
+    while 8 <= n - k {
+        if one_of(key, k, k + 8, x) {
+            return k;
+        }
+        k += 8;
+    }
+    k
+}
 
 // The least of the first n rows with the key x, or n.
 pub fn row_of(key: &[usize], n: usize, x: usize) -> usize
     requires { ⌜ n ≤ length (now key) ⌝ }
     ensures { λ r. ⌜ r ≡ rowOf (now (key .entry)) n x ⌝ }
 {
-    let mut k = 0;
+    let mut k = past_eights(key, n, x);
     while k < n {
         if key[k] == x {
             return k;

@@ -4,7 +4,7 @@ use mathlib.Core.Path.{_≡_, sym}
 use mathlib.Core.Bool.{false}
 use lib.Dec.{eqb}
 use lib.ListN.{getD}
-use borrow.Author.Count.{below-more, below-none}
+use borrow.Author.Count.{below-more}
 use borrow.Author.Tests.{ne-eqb, eq-eqb}
 use Rattle.tree.proofs.SearchLaws.{least-at, least-end}
 use Rattle.tree.specs.Sound.{rowOf}
@@ -18,8 +18,11 @@ Inv-loop key n x k₀ k = (k ≤ n) × ((j : ℕ) → j < k → eqb (getD key j 
 abbrev μ-loop : tie.MeasureT-loop
 μ-loop key n x k₀ k = n - k
 
+past-eights-requires : tie.Need-past-eights-requires Inv-loop μ-loop
+past-eights-requires c κs = search needs
+
 loop-holds : tie.Need-loop-holds Inv-loop μ-loop
-loop-holds c = (search needs, below-none _)
+loop-holds c = c .past-eights .ensures
 
 mul-if1 : tie.Need-mul-if1 Inv-loop μ-loop
 mul-if1 c = search needs
@@ -52,6 +55,7 @@ row-of-spec =
     (tie.spec
     Inv-loop
     μ-loop
+    past-eights-requires
     loop-holds
     mul-if1
     shared-slice-read-if1
