@@ -49,8 +49,8 @@ extern "C" {
 /* The library's numbers have 64 bits; where size_t has another number of them, this array has no length. */
 typedef char reach_size_t_has_64_bits[sizeof(size_t) == 8 ? 1 : -1];
 
-/* The version of this header: 0.4.0, as the major number times 10,000, the minor times 100 and the third together. */
-#define REACH_VERSION 400
+/* The version of this header: 0.5.0, as the major number times 10,000, the minor times 100 and the third together. */
+#define REACH_VERSION 500
 
 /* The version of the library that is linked. It is REACH_VERSION unless header and library come from two releases. */
 size_t reach_version(void);
@@ -71,14 +71,24 @@ enum {
     REACH_KIND_INSTRUCTION = 4 /* a processing instruction */
 };
 
-/* What a call answers. What a function does not use is 0; on a refusal all but refusal and place are 0. */
+/* What a call answers, but for reach_find. What a function does not use is 0; on a refusal all but refusal and place
+   are 0. */
 typedef struct {
     size_t refusal; /* 0: accepted; else the number below */
     size_t place;   /* where: a row, a pair's place or a number of results, by the number; else 0 */
-    size_t first;   /* find: the row; step: the number of results; edits: the new count; carry: the new length */
+    size_t first;   /* step: the number of results; edits: the new count; carry: the new length */
     size_t second;  /* step: the kept count; edits: the first moved row, in old numbering */
     int64_t moved;  /* edits: by how many rows it moved, negative for a deletion */
 } reach_answer;
+
+/* What reach_find answers: where the row of the key stands. On a refusal row, level and parent are 0. */
+typedef struct {
+    size_t refusal; /* 0: accepted; else the number below */
+    size_t place;   /* the unsound row on refusal 2; else 0 */
+    size_t row;     /* the row of the key */
+    size_t level;   /* its level */
+    int64_t parent; /* its parent's row, or -1 for a root, which has none */
+} reach_found;
 
 /*
  * Refusal numbers. Where several apply, the lowest is given, but 17 before 8. In a carry, which lends no table, the
@@ -155,10 +165,13 @@ reach_answer reach_check(const size_t *key, size_t key_length, const size_t *siz
                          const size_t *level, size_t level_length, const size_t *kind, size_t kind_length,
                          const size_t *name, size_t name_length, size_t count);
 
-/* Finds the row of key_wanted, in first: refusals 1, 2 and 9. Reads five columns, writes none. */
-reach_answer reach_find(const size_t *key, size_t key_length, const size_t *size, size_t size_length,
-                        const size_t *level, size_t level_length, const size_t *kind, size_t kind_length,
-                        const size_t *name, size_t name_length, size_t count, size_t key_wanted);
+/*
+ * Finds the row of key_wanted, with its level and its parent's row: refusals 1, 2 and 9. Reads five columns, writes
+ * none. The parent is the nearest earlier row whose level is one less. A row of level 0 is a root: its parent is -1.
+ */
+reach_found reach_find(const size_t *key, size_t key_length, const size_t *size, size_t size_length,
+                       const size_t *level, size_t level_length, const size_t *kind, size_t kind_length,
+                       const size_t *name, size_t name_length, size_t count, size_t key_wanted);
 
 /*
  * One location step for all roles at once: refusals 1 to 8. Reads the table and the pairs (role, row), which

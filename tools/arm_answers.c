@@ -30,21 +30,22 @@
 #define MOVE_ON old_count, first, moved
 #define RESULTS_ON out_role, out_role_length, out_row, out_row_length
 
-/* The function NAME of the header, by NAME_at of the compiled library. */
-#define HANDED_ON(name, parameters, passed)                         \
-    reach_answer *name##_at(reach_answer *, UNPACK parameters);     \
-    reach_answer name(UNPACK parameters)                            \
+/* The function NAME of the header, which answers a struct TYPE, by NAME_at of the compiled library. */
+#define HANDED_ON(name, type, parameters, passed)                   \
+    type *name##_at(type *, UNPACK parameters);                     \
+    type name(UNPACK parameters)                                    \
     {                                                               \
-        reach_answer answer;                                        \
+        type answer;                                                \
         name##_at(&answer, UNPACK passed);                          \
         return answer;                                              \
     }
 #define UNPACK(...) __VA_ARGS__
 
-HANDED_ON(reach_check, (TABLE(IN)), (TABLE_ON))
-HANDED_ON(reach_find, (TABLE(IN), size_t key_wanted), (TABLE_ON, key_wanted))
-HANDED_ON(reach_step, (TABLE(IN), PAIRS, CODES, RESULTS), (TABLE_ON, PAIRS_ON, CODES_ON, RESULTS_ON))
-HANDED_ON(reach_insert, (TABLE(OUT), size_t parent_key, PIECE), (TABLE_ON, parent_key, PIECE_ON))
-HANDED_ON(reach_delete, (TABLE(OUT), size_t key_wanted), (TABLE_ON, key_wanted))
-HANDED_ON(reach_rename, (TABLE(OUT), size_t key_wanted, size_t new_name), (TABLE_ON, key_wanted, new_name))
-HANDED_ON(reach_carry, (PAIRS, MOVE, RESULTS), (PAIRS_ON, MOVE_ON, RESULTS_ON))
+HANDED_ON(reach_check, reach_answer, (TABLE(IN)), (TABLE_ON))
+HANDED_ON(reach_find, reach_found, (TABLE(IN), size_t key_wanted), (TABLE_ON, key_wanted))
+HANDED_ON(reach_step, reach_answer, (TABLE(IN), PAIRS, CODES, RESULTS), (TABLE_ON, PAIRS_ON, CODES_ON, RESULTS_ON))
+HANDED_ON(reach_insert, reach_answer, (TABLE(OUT), size_t parent_key, PIECE), (TABLE_ON, parent_key, PIECE_ON))
+HANDED_ON(reach_delete, reach_answer, (TABLE(OUT), size_t key_wanted), (TABLE_ON, key_wanted))
+HANDED_ON(reach_rename, reach_answer, (TABLE(OUT), size_t key_wanted, size_t new_name),
+          (TABLE_ON, key_wanted, new_name))
+HANDED_ON(reach_carry, reach_answer, (PAIRS, MOVE, RESULTS), (PAIRS_ON, MOVE_ON, RESULTS_ON))

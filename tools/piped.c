@@ -37,26 +37,41 @@ static void put(const void *from, size_t bytes)
     }
 }
 
+/* What goes back over the pipe, whichever of the two structs a function answers. */
+typedef union {
+    reach_answer answer;
+    reach_found found;
+} five_numbers;
+
 /* head: code, count, three arguments, number of columns. c and n: the columns and their lengths. */
-static reach_answer answer(const size_t *head, size_t **c, const size_t *n)
+static five_numbers answer(const size_t *head, size_t **c, const size_t *n)
 {
+    five_numbers given;
 #define TABLE c[0], n[0], c[1], n[1], c[2], n[2], c[3], n[3], c[4], n[4], head[1]
     switch (head[0]) {
     case 0:
-        return reach_check(TABLE);
+        given.answer = reach_check(TABLE);
+        break;
     case 1:
-        return reach_find(TABLE, head[2]);
+        given.found = reach_find(TABLE, head[2]);
+        break;
     case 2:
-        return reach_step(TABLE, c[5], n[5], c[6], n[6], head[2], head[3], head[4], c[7], n[7], c[8], n[8]);
+        given.answer = reach_step(TABLE, c[5], n[5], c[6], n[6], head[2], head[3], head[4], c[7], n[7], c[8], n[8]);
+        break;
     case 3:
-        return reach_insert(TABLE, head[2], c[5], n[5], c[6], n[6], c[7], n[7], c[8], n[8], c[9], n[9], head[3]);
+        given.answer =
+            reach_insert(TABLE, head[2], c[5], n[5], c[6], n[6], c[7], n[7], c[8], n[8], c[9], n[9], head[3]);
+        break;
     case 4:
-        return reach_delete(TABLE, head[2]);
+        given.answer = reach_delete(TABLE, head[2]);
+        break;
     case 5:
-        return reach_rename(TABLE, head[2], head[3]);
+        given.answer = reach_rename(TABLE, head[2], head[3]);
+        break;
     default:
-        return reach_carry(c[5], n[5], c[6], n[6], head[1], head[2], (int64_t)head[3], c[7], n[7], c[8], n[8]);
+        given.answer = reach_carry(c[5], n[5], c[6], n[6], head[1], head[2], (int64_t)head[3], c[7], n[7], c[8], n[8]);
     }
+    return given;
 }
 
 int main(void)
@@ -75,7 +90,7 @@ int main(void)
             return 1;
         for (size_t i = 0, at = 0; i < head[5]; at += lengths[i++])
             columns[i] = numbers + at;
-        reach_answer given = answer(head, columns, lengths);
+        five_numbers given = answer(head, columns, lengths);
         put(&given, sizeof given);
         put(numbers, all * sizeof *numbers);
     }

@@ -11,8 +11,8 @@ use crate::{Pairs, Refusal, Results, Table, TableMut};
 
 const _: () = assert!(usize::BITS == 64, "the library's numbers have 64 bits");
 
-/// What the library answers. What a function doesn't use is 0; on a refusal all but the first
-/// two are 0.
+/// What the library answers, but for [`find`]. What a function doesn't use is 0; on a refusal all
+/// but the first two are 0.
 #[repr(C)]
 #[derive(Clone, Copy, Debug, Default, PartialEq, Eq)]
 #[non_exhaustive]
@@ -21,8 +21,7 @@ pub struct Answer {
     pub refusal: usize,
     /// The refusal's place.
     pub place: usize,
-    /// Find: the row. Step: the number of results. Edits: the new count. Carry: the length of the
-    /// new list.
+    /// Step: the number of results. Edits: the new count. Carry: the length of the new list.
     pub first: usize,
     /// Step: the kept count. Edits: the first moved row, in old numbering.
     pub second: usize,
@@ -33,17 +32,46 @@ pub struct Answer {
 impl Answer {
     /// The answer itself where the call was accepted, else its refusal.
     pub fn accepted(self) -> Result<Answer, Refusal> {
-        match self.refusal {
-            0 => Ok(self),
-            number => Err(Refusal::from_number(number, self.place)),
-        }
+        accepted(self.refusal, self.place).map(|()| self)
+    }
+}
+
+/// What [`find`] answers. On a refusal all but the first two are 0.
+#[repr(C)]
+#[derive(Clone, Copy, Debug, Default, PartialEq, Eq)]
+#[non_exhaustive]
+pub struct Found {
+    /// The refusal's number, or 0 where the call is accepted.
+    pub refusal: usize,
+    /// The refusal's place.
+    pub place: usize,
+    /// The row of the key.
+    pub row: usize,
+    /// Its level.
+    pub level: usize,
+    /// Its parent's row, or -1 for a root, which has none.
+    pub parent: i64,
+}
+
+impl Found {
+    /// The answer itself where the call was accepted, else its refusal.
+    pub fn accepted(self) -> Result<Found, Refusal> {
+        accepted(self.refusal, self.place).map(|()| self)
+    }
+}
+
+/// The refusal of this number, unless it is 0.
+fn accepted(number: usize, place: usize) -> Result<(), Refusal> {
+    match number {
+        0 => Ok(()),
+        _ => Err(Refusal::from_number(number, place)),
     }
 }
 
 /// Declares functions that take the columns of a table (each as pointer and length) and its count,
 /// then what stands after the semicolon.
 macro_rules! declare {
-    ($(fn $function:ident(table: *$pointer:tt; $($more:ident: $type:ty),*);)*) => {
+    ($(fn $function:ident(table: *$pointer:tt; $($more:ident: $type:ty),*) -> $answer:ty;)*) => {
         extern "C" {
             $(fn $function(
                 key: *$pointer usize,
@@ -58,14 +86,14 @@ macro_rules! declare {
                 name_length: usize,
                 count: usize
                 $(, $more: $type)*
-            ) -> Answer;)*
+            ) -> $answer;)*
         }
     };
 }
 
 declare! {
-    fn reach_check(table: *const;);
-    fn reach_find(table: *const; key_wanted: usize);
+    fn reach_check(table: *const;) -> Answer;
+    fn reach_find(table: *const; key_wanted: usize) -> Found;
     fn reach_step(
         table: *const;
         role: *const usize,
@@ -79,7 +107,7 @@ declare! {
         out_role_length: usize,
         out_row: *mut usize,
         out_row_length: usize
-    );
+    ) -> Answer;
     fn reach_insert(
         table: *mut;
         parent_key: usize,
@@ -94,9 +122,9 @@ declare! {
         p_name: *const usize,
         p_name_length: usize,
         p_count: usize
-    );
-    fn reach_delete(table: *mut; key_wanted: usize);
-    fn reach_rename(table: *mut; key_wanted: usize, new_name: usize);
+    ) -> Answer;
+    fn reach_delete(table: *mut; key_wanted: usize) -> Answer;
+    fn reach_rename(table: *mut; key_wanted: usize, new_name: usize) -> Answer;
 }
 
 extern "C" {
@@ -152,8 +180,8 @@ pub fn check(table: Table<'_>) -> Answer {
     call!(reach_check, table, as_ptr)
 }
 
-/// Finds the row of a key: refusals 1, 2 and 9.
-pub fn find(table: Table<'_>, key_wanted: usize) -> Answer {
+/// Finds the row of a key, with its level and its parent's row: refusals 1, 2 and 9.
+pub fn find(table: Table<'_>, key_wanted: usize) -> Found {
     call!(reach_find, table, as_ptr, key_wanted)
 }
 

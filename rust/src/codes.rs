@@ -31,9 +31,9 @@ macro_rules! numbers {
 }
 
 numbers! {
-    /// The version of this wrapper: 0.4.0, as the major number times 10,000, the minor times 100 and
+    /// The version of this wrapper: 0.5.0, as the major number times 10,000, the minor times 100 and
     /// the third together. [`boundary::version`](crate::boundary::version) answers the library's.
-    VERSION = 400,
+    VERSION = 500,
 
     /// The most rows that a table can have in use.
     MOST_ROWS = 4_096,

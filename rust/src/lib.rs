@@ -1,6 +1,6 @@
 //! Safe Rust over the reach engine, a verified library that works on lent columns: it checks a
-//! node table, finds a row by its key, answers one location step for many roles at once, edits the
-//! table, and carries the roles' rows over an edit.
+//! node table, finds by its key where a row stands, answers one location step for many roles at
+//! once, edits the table, and carries the roles' rows over an edit.
 //!
 //! A table is five columns of numbers, one row for each node in document order, and a count of
 //! the rows in use. Nothing is copied: the library reads and writes the slices that are lent to
@@ -21,8 +21,11 @@
 //!     count: 3,
 //! };
 //! assert_eq!(table.check(), Ok(()));
-//! assert_eq!(table.find(23), Ok(2));
+//! // The second blade stands in row 2 at level 1, under the turbine in row 0.
+//! let blade = table.find(23)?;
+//! assert_eq!((blade.row, blade.level, blade.parent), (2, 1, Some(0)));
 //! assert_eq!(table.find(24), Err(Refusal::UnknownKey));
+//! # Ok::<(), Refusal>(())
 //! ```
 //!
 //! # Several farms
@@ -76,4 +79,4 @@ mod table;
 pub use edit::{Edited, TableMut};
 pub use refusal::Refusal;
 pub use step::{Axis, Pairs, Results, Stepped, Test};
-pub use table::Table;
+pub use table::{Located, Table};

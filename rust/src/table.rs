@@ -1,6 +1,6 @@
-//! A node table in five lent columns: checking it, and finding a row in it.
+//! A node table in five lent columns: checking it, and finding where a row stands in it.
 
-use crate::boundary;
+use crate::boundary::{self, Found};
 use crate::Refusal;
 
 /// A node table that is lent to be read: five columns, and how many rows are in use.
@@ -37,6 +37,19 @@ pub struct Table<'a> {
     pub count: usize,
 }
 
+/// Where a row stands: what finding its key answers.
+#[derive(Clone, Copy, Debug, PartialEq, Eq)]
+#[non_exhaustive]
+pub struct Located {
+    /// The row of the key.
+    pub row: usize,
+    /// Its level: how deep it stands.
+    pub level: usize,
+    /// Its parent's row, which is the nearest earlier row whose level is one less. A root, which is
+    /// a row of level 0, has none.
+    pub parent: Option<usize>,
+}
+
 impl Table<'_> {
     /// Checks that the table is sound. Every other call that takes a table does the same first.
     ///
@@ -58,19 +71,31 @@ impl Table<'_> {
         boundary::check(self).accepted().map(|_| ())
     }
 
-    /// Finds the row of a key.
+    /// Finds the row of a key, with its level and its parent's row.
     ///
     /// ```
     /// use reach::{farm, Refusal};
     ///
-    /// assert_eq!(farm::table().find(31), Ok(7));
-    /// assert_eq!(farm::table().find(99), Err(Refusal::UnknownKey));
+    /// // A blade, and in the same call the turbine that it stands under.
+    /// let farm = farm::table();
+    /// let blade = farm.find(31)?;
+    /// assert_eq!((blade.row, blade.level, blade.parent), (7, 2, Some(6)));
+    /// assert_eq!(farm.key[6], 30);
+    ///
+    /// // The farm itself is a root and stands under nothing.
+    /// let root = farm.find(10)?;
+    /// assert_eq!((root.row, root.level, root.parent), (0, 0, None));
+    ///
+    /// assert_eq!(farm.find(99), Err(Refusal::UnknownKey));
+    /// # Ok::<(), Refusal>(())
     /// ```
     ///
     /// # Errors
     ///
     /// [`Refusal::BadCount`], [`Refusal::UnsoundRow`] and [`Refusal::UnknownKey`].
-    pub fn find(self, key_wanted: usize) -> Result<usize, Refusal> {
-        boundary::find(self, key_wanted).accepted().map(|answer| answer.first)
+    pub fn find(self, key_wanted: usize) -> Result<Located, Refusal> {
+        let Found { row, level, parent, .. } = boundary::find(self, key_wanted).accepted()?;
+        // A root's parent is -1, which is no row.
+        Ok(Located { row, level, parent: usize::try_from(parent).ok() })
     }
 }

@@ -49,6 +49,18 @@ fn no_axis_leaves_a_farm_and_each_farm_keeps_one_pair() {
 }
 
 #[test]
+fn both_roots_are_found_and_no_parent_stands_in_the_other_farm() {
+    let mut farms = Farms::new();
+    let farms = farms.lent();
+    for (key, row, level, parent) in
+        [(10, 0, 0, None), (30, 3, 1, Some(0)), (50, 4, 0, None), (60, 5, 1, Some(4))]
+    {
+        let found = farms.as_table().find(key).unwrap();
+        assert_eq!((found.row, found.level, found.parent), (row, level, parent));
+    }
+}
+
+#[test]
 fn roots_are_nobodys_children_or_siblings() {
     let roots = Pairs { role: &[5, 5], row: &[0, 4] };
     for axis in [Axis::Parent, Axis::Ancestor, Axis::FollowingSibling, Axis::PrecedingSibling] {

@@ -46,7 +46,8 @@ fn check_and_find_fit() {
     let flat = Flat::new(ROWS, 1);
     on_a_small_stack(move || {
         assert_eq!(flat.table().check(), Ok(()));
-        assert_eq!(flat.table().find(ROWS), Ok(ROWS - 1));
+        let last = flat.table().find(ROWS).unwrap();
+        assert_eq!((last.row, last.parent), (ROWS - 1, Some(0)));
     });
 }
 

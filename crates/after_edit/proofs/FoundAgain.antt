@@ -18,10 +18,9 @@ use Rattle.tree.specs.Rules.{InUse, Sound}
 use Rattle.tree.specs.Tree.{ancestor}
 use Rattle.tree.specs.Edit.{opened, closed, gapOf, inserted, deleted, renamed, minus, insertDone, deleteDone}
 use Rattle.tree.specs.Edit.{renameDone}
-use Rattle.tree.specs.Outcome.{findOutcome}
+use Rattle.tree.specs.Outcome.{findOutcome, foundAt}
 use Rattle.tree.specs.declared.Done.{Done}
 use Rattle.tree.specs.declared.Edited.the-variants.{Made}
-use Rattle.tree.specs.declared.Found.the-variants.{At}
 use Rattle.tree.proofs.SoundLaws.{sound-descendants}
 use Rattle.tree.proofs.AcceptLaws.{insert-passes, neither}
 use Rattle.tree.proofs.ColumnLaws.{opened-stays, opened-moves, closed-stays, closed-moves, changed-at, length-changed}
@@ -208,8 +207,8 @@ row-again a t d e i l g =
 -- ── the key again ──
 -- each key that was not deleted is found again at the row that the answer's first moved row and move say
 pub found-again : (a : Act) (t : Table) (d : Done) → outcome a t .answer ≡ Made d
-    → (k i : ℕ) → findOutcome t k ≡ At i → goes a t i ≡ false
-    → (w : ℕ) × (pos w ≡ movedTo d i) × (findOutcome (outcome a t .table) k ≡ At w)
+    → (k i : ℕ) → findOutcome t k ≡ foundAt t i → goes a t i ≡ false
+    → (w : ℕ) × (pos w ≡ movedTo d i) × (findOutcome (outcome a t .table) k ≡ foundAt (outcome a t .table) w)
 found-again a t d e k i q g =
     let h : Accepted (outcome a t) = (d, e) in
     let o = find-found t k i .0 q in

@@ -3,6 +3,7 @@ pub mod FoundAgain
 pub mod GoneLaws
 pub mod SpareLaws
 pub mod PlantedLaws
+pub mod UnderAgain
 pub mod InTurnLaws
 pub mod InUseLaws
 pub mod EitherOrder

@@ -1,7 +1,8 @@
 -- After an accepted insertion the rows of the piece stand from the first moved row on and hold what they held, their
 -- levels raised by the parent's level plus one: `piece-there`. Each is found there by its key: `piece-found`. The
--- first of them is the last child of the named row, `last-child`: it is on that row's child axis, and no row follows it
--- as a sibling, `last-on-axis`. Assumes nothing.
+-- first of them is the last child of the named row, `last-child`: it is found under that row, `piece-under`, is on its
+-- child axis, and no row follows it as a sibling, `last-on-axis`. Before them: the children of a row are those of the
+-- next size rows that are one level deeper, `child-is`, `child-reached`. Assumes nothing.
 use mathlib.Core.Path.{_≡_, refl, sym, ap, _∙_}
 use mathlib.Core.Bool.{Bool, true, false, cond, _||_}
 use mathlib.Core.List.{List, [], _∷_, map}
@@ -17,9 +18,10 @@ use Rattle.tree.specs.Rules.{InUse, Sound}
 use Rattle.tree.specs.Tree.{parent, ancestor, siblings}
 use Rattle.tree.specs.Axis.{onAxis}
 use Rattle.tree.specs.Edit.{opened, gapOf, inserted, insertDone}
-use Rattle.tree.specs.Outcome.{findOutcome, insertOutcome}
+use Rattle.tree.specs.Outcome.{findOutcome, foundAt, insertOutcome}
 use Rattle.tree.specs.declared.Done.{Done}
 use Rattle.tree.specs.declared.Edited.the-variants.{Made}
+use Rattle.tree.specs.declared.Located.the-variants.{Under as Below}
 use Rattle.tree.specs.declared.Found.the-variants.{At}
 use Rattle.tree.proofs.TreeLaws.{Under, parent-is, parent-less, under-parent, ancestor-under}
 use Rattle.tree.proofs.SoundLaws.{sound-steps, sound-descendants, both, either-left}
@@ -27,6 +29,7 @@ use Rattle.tree.proofs.AxisLaws.{false-of}
 use Rattle.tree.proofs.AcceptLaws.{only-root, insert-passes}
 use Rattle.tree.proofs.ColumnLaws.{opened-new, opened-stays, changed-at, length-changed}
 use Rattle.tree.proofs.EditLaws.{gap-fits}
+use Rattle.tree.proofs.StandingLaws.{stands-under}
 use Rattle.tree.proofs.FindLaws.{find-row}
 use Rattle.after_edit.specs.Act.{insertion, rowNamed, tableAfter, doneOf}
 use Rattle.after_edit.specs.Planted.{Planted, LastChild}
@@ -39,28 +42,38 @@ map-at g [] i l = absurd (not-suc-le-zero l)
 map-at g (x ∷ xs) zero l = refl
 map-at g (x ∷ xs) (suc i) l = map-at g xs i (le-of-suc-le-suc l)
 
--- in a sound table, the last of the rows under row r that are one level deeper is its last child
+-- in a sound table, a row among the next size rows after row r that is one level deeper is its child
+pub child-is : (u : Table) → Sound u → (r c : ℕ) → r < c → c ≤ r + at (u .size) r → c < u .count
+    → at (u .level) r + 1 ≡ at (u .level) c → parent (u .level) c ≡ suc r
+child-is u s r c a b l e =
+    let under : Under (u .level) r c =
+    ancestor-under (u .level) (u .count) (sound-steps u s) r c l .0
+    (sound-descendants u s r c (omega arith) l .1 (a, b)) in
+    parent-is (u .level) c r (record {
+      earlier = a;
+      less = e;
+      closest = λ k x y q. omega (arith, under .deeper k x (omega arith));
+    })
+
+-- and a child is among them
+pub child-reached : (u : Table) → Sound u → (r c : ℕ) → c < u .count → parent (u .level) c ≡ suc r
+    → (r < c) × (c ≤ r + at (u .size) r)
+child-reached u s r c l e =
+    let under : Under (u .level) r c = under-parent (u .level) (u .count) (sound-steps u s) c r l e in
+    let a : r < c = under .after in
+    sound-descendants u s r c (omega arith) l .0
+    (ancestor-under (u .level) (u .count) (sound-steps u s) r c l .1 under)
+
+-- the last of these rows that are one level deeper is its last child
 last-under : (u : Table) → Sound u → (r c : ℕ) → r < c → c ≤ r + at (u .size) r → c < u .count
     → at (u .level) r + 1 ≡ at (u .level) c
     → ((w : ℕ) → c < w → w ≤ r + at (u .size) r → at (u .level) r + 1 ≡ at (u .level) w → ⊥)
     → LastChild (u .level) (u .count) r c
 last-under u s r c a b l e h = record {
   in-use = l;
-  child = parent-is (u .level) c r (record {
-    earlier = a;
-    less = e;
-    closest = λ k x y q. omega (arith, under .deeper k x (omega arith));
-  });
-  last = λ w x y q. h w x (sound-descendants u s r w (omega arith) y .0
-      (ancestor-under (u .level) (u .count) (sound-steps u s) r w y .1
-      (under-parent (u .level) (u .count) (sound-steps u s) w r y q)) .1)
-      (parent-less (u .level) w r q);
+  child = child-is u s r c a b l e;
+  last = λ w x y q. h w x (child-reached u s r w y q .1) (parent-less (u .level) w r q);
 }
-  where
-    under : Under (u .level) r c
-    under =
-        ancestor-under (u .level) (u .count) (sound-steps u s) r c l .0
-        (sound-descendants u s r c (omega arith) l .1 (a, b))
 
 module _ (t : Table) (k : ℕ) (p : Table) (f : Fits (insertion k p) t) where
   -- a row of the piece, by the definitions
@@ -136,7 +149,8 @@ piece-there t k p d e j l =
 
 -- and is found there by its key
 pub piece-found : (t : Table) (k : ℕ) (p : Table) (d : Done) → insertOutcome t k p .answer ≡ Made d
-    → (j : ℕ) → j < p .count → findOutcome (insertOutcome t k p .table) (at (p .key) j) ≡ At (d .first + j)
+    → (j : ℕ) → j < p .count → findOutcome (insertOutcome t k p .table) (at (p .key) j)
+    ≡ foundAt (insertOutcome t k p .table) (d .first + j)
 piece-found t k p d e j l =
     let u : Table = insertOutcome t k p .table in
     let w : Planted t (rowOf (t .key) (t .count) k) p u j (d .first + j) = piece-there t k p d e j l in
@@ -148,6 +162,27 @@ pub last-child : (t : Table) (k : ℕ) (p : Table) (d : Done) → insertOutcome 
 last-child t k p d e =
     accepted-has (λ (d : Done) (u : Table). LastChild (u .level) (d .count) (rowOf (t .key) (t .count) k) (d .first))
     (insertion k p) t d e (after-last t k p)
+
+-- so its first row is found under that row, one level deeper
+pub piece-under : (t : Table) (k : ℕ) (p : Table) (d : Done) → insertOutcome t k p .answer ≡ Made d
+    → findOutcome (insertOutcome t k p .table) (at (p .key) 0)
+    ≡ At (Below (record {
+      row = d .first;
+      level = at (t .level) (rowOf (t .key) (t .count) k) + 1;
+      parent = rowOf (t .key) (t .count) k;
+    }))
+piece-under t k p d e =
+    let r : ℕ = rowOf (t .key) (t .count) k in
+    let u : Table = insertOutcome t k p .table in
+    let (some, top) = accepted-has (λ (d : Done) (u : Table). (0 < p .count) × (at (p .level) 0 ≡ 0))
+    (insertion k p) t d e (λ f. let s = insert-passes t r p .0 (f .passes) .piece in
+    (s .in-use .some, s .rows 0 (s .in-use .some) .levels .root refl)) in
+    let first : d .first + 0 ≡ d .first = omega arith in
+    let deep : at (u .level) (d .first) ≡ at (t .level) r + 1 =
+    omega (arith, ap (at (u .level)) first, piece-there t k p d e 0 some .level) in
+    piece-found t k p d e 0 some ∙ ap (foundAt u) first
+    ∙ ap At (stands-under (u .level) (d .first) r (last-child t k p d e .child)
+    ∙ ap (λ (l : ℕ). Below (record { row = d .first; level = l; parent = r })) deep)
 
 -- in steps: a last child is on the child axis of its parent's row, and has no following sibling in use
 pub last-on-axis : (level : List ℕ) (n r c : ℕ) → LastChild level n r c

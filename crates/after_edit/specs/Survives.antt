@@ -1,6 +1,7 @@
 -- Where a row stands after an accepted edit, and what it holds: RULES 01, "Finding and editing by key".
--- That every row that stays is found so is `row-again` and `found-again` (proofs/FoundAgain.antt); that the others are
--- not found is `gone` (proofs/GoneLaws.antt). Assumes nothing.
+-- That every row that stays is found so is `row-again` and `found-again` (proofs/FoundAgain.antt), that it stands under
+-- the row that it stood under `stays-under` (proofs/UnderAgain.antt); that the others are not found is `gone`
+-- (proofs/GoneLaws.antt). Assumes nothing.
 use Prim.Native.Nat.{ℕ, _<_}
 use mathlib.Core.Path.{_≡_}
 use mathlib.Core.Bool.{Bool, false, cond, _||_}

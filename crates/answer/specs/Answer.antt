@@ -1,5 +1,5 @@
--- The library's answers as one struct for C: include/reach.h. Refusal 0 is acceptance; what an answer does not use
--- is 0. Assumes nothing.
+-- The library's answers as one struct for C: include/reach.h, reach_answer. Refusal 0 is acceptance; what an answer
+-- does not use is 0. What finding answers has a struct of its own: Found. Assumes nothing.
 use mathlib.Core.Path.{_≡_}
 use mathlib.Core.List.{List}
 use Prim.Native.Nat.{ℕ}
@@ -8,8 +8,6 @@ use Rattle.tree.specs.Outcome.{StepOutcome, EditOutcome}
 use Rattle.tree.specs.Carry.{CarryOutcome}
 use Rattle.tree.specs.declared.Checked.{Checked}
 use Rattle.tree.specs.declared.Checked.the-variants.{Passed, Refused}
-use Rattle.tree.specs.declared.Found.{Found}
-use Rattle.tree.specs.declared.Found.the-variants.{At, Refused as NotFound}
 use Rattle.tree.specs.declared.Stepped.{Stepped}
 use Rattle.tree.specs.declared.Stepped.the-variants.{Listed, Refused as NotListed}
 use Rattle.tree.specs.declared.Edited.{Edited}
@@ -30,11 +28,6 @@ refused n p = record { refusal = n; place = p; first = 0; second = 0; moved = po
 unfoldable pub checkAnswer : Checked → Answer
 checkAnswer Passed = accepted 0 0 (pos 0)
 checkAnswer (Refused n p) = refused n p
-
--- the row of the key comes first
-unfoldable pub findAnswer : Found → Answer
-findAnswer (At r) = accepted r 0 (pos 0)
-findAnswer (NotFound n p) = refused n p
 
 -- the number of results comes first, then the kept count
 unfoldable pub stepAnswer : Stepped → Answer

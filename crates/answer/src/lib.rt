@@ -1,12 +1,14 @@
-// The library's version, and its answers as one struct for C: refusal 0 is acceptance, and what is not used is 0.
+// The library's version, and its answers as structs for C: refusal 0 is acceptance, and what is not used is 0.
 ghost use mathlib.Core.Path.{_≡_};
-ghost use Rattle.answer.specs.Answer.{accepted, refused, checkAnswer, findAnswer, stepAnswer, editAnswer};
-ghost use Rattle.answer.specs.Answer.{carryAnswer};
+ghost use Prim.Native.Nat.{_≤_};
+ghost use Rattle.answer.specs.Answer.{accepted, refused, checkAnswer, stepAnswer, editAnswer, carryAnswer};
+ghost use Rattle.answer.specs.Found.{parentIn, parentFound, locatedAnswer, findAnswer};
 ghost use Rattle.answer.specs.Version.{version};
 use tree::Carried;
 use tree::Checked;
 use tree::Edited;
 use tree::Found;
+use tree::Located;
 use tree::Stepped;
 
 #[repr(C)]
@@ -16,6 +18,15 @@ pub struct Answer {
     pub first: usize,
     pub second: usize,
     pub moved: i64,
+}
+
+#[repr(C)]
+pub struct FoundAnswer {
+    pub refusal: usize,
+    pub place: usize,
+    pub row: usize,
+    pub level: usize,
+    pub parent: i64,
 }
 
 // An acceptance, with two numbers and a move.
@@ -54,13 +65,46 @@ pub fn of_check(checked: Checked) -> Answer
     }
 }
 
-// What finding a key answers: the row first.
-pub fn of_find(found: Found) -> Answer
+// Where a row stands: a root has no parent, so -1 stands there.
+fn of_located(located: Located) -> FoundAnswer
+    requires { ⌜ parentIn located ≤ 4096 ⌝ }
+    ensures { λ r. ⌜ r ≡ locatedAnswer located ⌝ }
+{
+    match located {
+        Located::Root(row) => FoundAnswer {
+            refusal: 0,
+            place: 0,
+            row,
+            level: 0,
+            parent: -1,
+        },
+        Located::Under(child) => {
+            let parent = child.parent as i64;
+            FoundAnswer {
+                refusal: 0,
+                place: 0,
+                row: child.row,
+                level: child.level,
+                parent,
+            }
+        }
+    }
+}
+
+// What finding a key answers: the row, its level and its parent's row.
+pub fn of_find(found: Found) -> FoundAnswer
+    requires { ⌜ parentFound found ≤ 4096 ⌝ }
     ensures { λ r. ⌜ r ≡ findAnswer found ⌝ }
 {
     match found {
-        Found::At(row) => accept(row, 0, 0),
-        Found::Refused(number, place) => refuse(number, place),
+        Found::At(located) => of_located(located),
+        Found::Refused(number, place) => FoundAnswer {
+            refusal: number,
+            place,
+            row: 0,
+            level: 0,
+            parent: 0,
+        },
     }
 }
 
@@ -98,5 +142,5 @@ pub fn of_carry(carried: Carried) -> Answer
 pub fn library_version() -> usize
     ensures { λ r. ⌜ r ≡ version ⌝ }
 {
-    400
+    500
 }

@@ -15,11 +15,11 @@ use Rattle.tree.specs.Table.{Table, at}
 use Rattle.tree.specs.Sound.{rowOf}
 use Rattle.tree.specs.Rules.{Sound}
 use Rattle.tree.specs.Pairs.{Pair, pair}
-use Rattle.tree.specs.Outcome.{findOutcome}
+use Rattle.tree.specs.Outcome.{findOutcome, foundAt}
 use Rattle.tree.specs.Carry.{rowAfter, wasDeleted, carriedBy, carried}
 use Rattle.tree.specs.declared.Done.{Done}
 use Rattle.tree.specs.declared.Edited.the-variants.{Made}
-use Rattle.tree.specs.declared.Found.the-variants.{At, Refused as NotFound}
+use Rattle.tree.specs.declared.Found.the-variants.{Refused as NotFound}
 use Rattle.tree.proofs.SoundLaws.{find-at}
 use Rattle.tree.proofs.AcceptLaws.{no-key}
 use Rattle.tree.proofs.EditLaws.{row-key}
@@ -79,7 +79,7 @@ module _ (a : Act) (t : Table) (d : Done) (e : outcome a t .answer ≡ Made d) w
       back true g h = refl
       back false g h =
           let (v, r) = row-again a t d e w l g in
-          let z : NotFound 9 0 ≡ At v =
+          let z : NotFound 9 0 ≡ foundAt (outcome a t .table) v =
           sym h ∙ ap (findOutcome (outcome a t .table)) (sym (r .key))
           ∙ find-row (outcome a t .table) (edited-sound a t (d, e)) v (r .in-use) in
           let y : _≡_ {A = ℕ} 0 1 = cc in
@@ -137,7 +137,7 @@ refound-in t u s ps q = (there, back)
 -- after the edit a role holds exactly the keys that it held, but for those gone
 pub grants-stay : (a : Act) (t : Table) (d : Done) → outcome a t .answer ≡ Made d → (ps : List Pair) → Inside t ps
     → (r k : ℕ) → Holds (outcome a t .table) (carried (d .first) (d .moved) ps) r k
-    ↔ (Holds t ps r k × ((i : ℕ) × (findOutcome (outcome a t .table) k ≡ At i)))
+    ↔ (Holds t ps r k × ((i : ℕ) × (findOutcome (outcome a t .table) k ≡ foundAt (outcome a t .table) i)))
 grants-stay a t d e ps i r k = rw (carry-refinds a t d e ps i) (there, back)
   where
     u : Table
@@ -146,14 +146,14 @@ grants-stay a t d e ps i r k = rw (carry-refinds a t d e ps i) (there, back)
     s : Sound (outcome a t .table)
     s = edited-sound a t (d, e)
 
-    there : Holds u (refound t u ps) r k → Holds t ps r k × ((i : ℕ) × (findOutcome u k ≡ At i))
+    there : Holds u (refound t u ps) r k → Holds t ps r k × ((i : ℕ) × (findOutcome u k ≡ foundAt u i))
     there h =
         let (w, j, l, x) = refound-in t u s ps (pair r (h .row)) .0 (h .held) in (
           record { row = w; held = j; inside = i (pair r w) j; key = sym x ∙ h .key },
           (h .row, find-found u k (h .row) .1 (s, h .inside, h .key)),
         )
 
-    back : Holds t ps r k × ((i : ℕ) × (findOutcome u k ≡ At i)) → Holds u (refound t u ps) r k
+    back : Holds t ps r k × ((i : ℕ) × (findOutcome u k ≡ foundAt u i)) → Holds u (refound t u ps) r k
     back h =
         let f = find-found u k (h .1 .0) .0 (h .1 .1) in
         record {

@@ -7,4 +7,4 @@ use Rattle.tree.specs.declared.Edited.the-variants.{Refused}
 -- the search's number and place; where it found a row no edit asks
 abbrev pub refusalOf : Found → Edited
 refusalOf (NotFound m p) = Refused m p
-refusalOf (At r) = Refused 9 0
+refusalOf (At l) = Refused 9 0

@@ -1,5 +1,6 @@
 // Insertion, deletion and rename by key: RULES 01, "Finding and editing by key". Each call finds the row of its key
-// in the table, which checks it, and hands over to the edit at that row; a refusal leaves all columns as they were.
+// in the table, which checks it, and hands what was found, the row and its parent, to the edit there: RULES 02, E3. A
+// refusal leaves all columns as they were.
 ghost use mathlib.Core.Path.{_≡_};
 ghost use Rattle.tree.specs.Table.{tableOf};
 ghost use Rattle.tree.specs.Outcome.{insertOutcome, deleteOutcome, renameOutcome};
@@ -45,7 +46,7 @@ pub fn insert(
         (now (key .exit)) (now (size .exit)) (now (level .exit)) (now (kind .exit)) (now (name .exit)) ⌝ }
 {
     let found = table::find(key, size, level, kind, name, count, parent_key);
-    let Found::At(row) = found else {
+    let Found::At(located) = found else {
         return refused(found);
     };
     insert_at(
@@ -55,7 +56,7 @@ pub fn insert(
         kind,
         name,
         count,
-        row,
+        located,
         p_key,
         p_size,
         p_level,
@@ -81,10 +82,10 @@ pub fn delete(
         (now (key .exit)) (now (size .exit)) (now (level .exit)) (now (kind .exit)) (now (name .exit)) ⌝ }
 {
     let found = table::find(key, size, level, kind, name, count, key_wanted);
-    let Found::At(row) = found else {
+    let Found::At(located) = found else {
         return refused(found);
     };
-    deletion::delete_at(key, size, level, kind, name, count, row)
+    deletion::delete_at(key, size, level, kind, name, count, located)
 }
 
 // The row of a key gets a new name, or refusal 1, 2, 9 or 16.
@@ -104,8 +105,8 @@ pub fn rename(
         (now (key .exit)) (now (size .exit)) (now (level .exit)) (now (kind .exit)) (now (name .exit)) ⌝ }
 {
     let found = table::find(key, size, level, kind, name, count, key_wanted);
-    let Found::At(row) = found else {
+    let Found::At(located) = found else {
         return refused(found);
     };
-    renaming::rename_at(key, size, level, kind, name, count, row, new_name)
+    renaming::rename_at(key, size, level, kind, name, count, located, new_name)
 }

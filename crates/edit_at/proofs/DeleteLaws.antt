@@ -1,72 +1,117 @@
--- A deletion at a row: the rows that go are in use, `rows-fit`, and their ancestors have them, `rows-lowerable`; what
--- the passes over the columns leave is the outcome, `delete-made`, or the only root stays, `delete-refused`.
--- Assumes nothing.
-use mathlib.Core.Path.{_≡_, refl, ap, _∙_}
-use Prim.Native.Nat.{ℕ, _+_, _-_, _≤_}
-use borrow.Author.Tests.{eq-eqb, ne-eqb}
+-- A deletion at a row: the rows that go are in use, `rows-fit`. Once the sizes above it have changed, what closing up
+-- leaves is the outcome, `delete-made`, in columns that have the rows, `low-in-use`. A root: the only one stays,
+-- `root-refused`, any other goes, `root-passes`, and no size changes, `root-sizes`. A row under a parent always goes,
+-- `child-passes`, and its ancestors have the rows that go, `child-held`. Assumes nothing.
+use mathlib.Core.Path.{_≡_, refl, sym, ap, subst, _∙_}
+use mathlib.Core.Bool.{Bool, true, not, _&&_}
 use mathlib.Core.List.{List}
-use Rattle.tree.specs.Table.{Table, at}
-use Rattle.tree.specs.Edit.{closed, gapOf, deleted, deleteDone, minus}
+use Prim.Native.Nat.{ℕ, suc, _+_, _-_, _<_, _≤_}
+use native.Mathlib.Omega.{arith}
+use borrow.Author.Tests.{eq-eqb, ne-eqb}
+use lib.ListN.{length}
+use Rattle.tree.specs.Table.{Table, tableOf, at}
+use Rattle.tree.specs.Rules.{InUse}
+use Rattle.tree.specs.Tree.{ancestor, otherRoot}
+use Rattle.tree.specs.Edit.{changed, gapOf, deleted, deleteDone}
 use Rattle.tree.specs.Refusal.{deleteCheck}
-use Rattle.tree.specs.declared.Done.{Done}
-use Rattle.tree.specs.declared.Edited.the-variants.{Made, Refused as NotMade}
+use Rattle.tree.specs.Outcome.{EditOutcome}
+use Rattle.tree.specs.declared.Child.{Child}
+use Rattle.tree.specs.declared.Located.the-variants.{Root, Under}
+use Rattle.tree.specs.declared.Edited.{Edited}
+use Rattle.tree.specs.declared.Edited.the-variants.{Refused as NotMade}
 use Rattle.tree.specs.declared.Checked.the-variants.{Passed}
-use Rattle.tree.proofs.SoundLaws.{sound-shape, given-not}
+use Rattle.tree.proofs.TreeLaws.{Under as Above, parent-less, ancestor-under}
+use Rattle.tree.proofs.SoundLaws.{sound-shape, sound-steps, given-not}
 use Rattle.tree.proofs.LastRootLaws.{only-root-is}
+use Rattle.tree.proofs.StandingLaws.{root-stands, under-stands}
+use Rattle.tree.proofs.ColumnLaws.{changed-none, length-changed}
 use Rattle.tree.proofs.EditLaws.{gap-fits}
-use Rattle.edit_at.specs.EditLeaves.{EditLeaves}
-use Rattle.table.specs.RowFound.{RowFound}
-use Rattle.edit_at.specs.AtRow.{deleteAt}
-use Rattle.shift.specs.Done.{answered}
-use Rattle.sizes.specs.Enclosing.{lowered, Lowerable}
-use Rattle.edit_at.proofs.OutcomeLaws.{leaves, own-refused, own-passed}
+use Rattle.tree.proofs.EditSizes.{ancestor-larger}
 use Rattle.tree.proofs.FindLaws.{given-refused}
-use Rattle.sizes.proofs.SizePassLaws.{lowered-is, lowerable}
+use Rattle.table.specs.RowFound.{RowKnown, RowFound}
+use Rattle.sizes.proofs.UpLaws.{above-root}
+use Rattle.edit_at.specs.EditLeaves.{EditLeaves}
+use Rattle.edit_at.specs.AtRow.{closedUp, deleteAt}
+use Rattle.edit_at.proofs.OutcomeLaws.{leaves, own-refused, own-passed}
 
 module _ (t : Table) (r : ℕ) where
-  module _ (k : RowFound t r) where
-    -- the only root stays
-    pub delete-refused : at (t .size) r + 1 ≡ t .count
-        → EditLeaves (deleteAt t r) (NotMade 15 0) (t .key) (t .size) (t .level) (t .kind) (t .name)
-    unfolding deleteCheck
-    delete-refused e =
-        let lone = only-root-is t (k .sound) r (k .in-use) ∙ eq-eqb _ _ e in
-        leaves t (own-refused _ _ t (given-refused _ 15 0 15 0 .1 (lone, refl, refl)))
+  -- the row and its descendants are in use
+  pub rows-fit : RowKnown t r → r + (at (t .size) r + 1) ≤ t .count
+  unfolding gapOf
+  rows-fit k = gap-fits t (k .sound) r (k .in-use)
 
-    -- another row goes
-    delete-on : (at (t .size) r + 1 ≡ t .count → ⊥) → deleteCheck t r ≡ Passed
-    unfolding deleteCheck
-    delete-on ne = given-not 15 0 (only-root-is t (k .sound) r (k .in-use) ∙ ne-eqb _ _ ne)
+  -- the sizes above the row fell, then every column closed up
+  pub delete-made : deleteCheck t r ≡ Passed → {low : List ℕ}
+      → low ≡ changed (λ i. ancestor (t .level) i r) (λ s. s - (at (t .size) r + 1)) (t .size)
+      → {a : Edited} {key size level kind name : List ℕ}
+      → EditLeaves (closedUp (tableOf (t .key) low (t .level) (t .kind) (t .name) (t .count)) r (at (t .size) r + 1))
+      a key size level kind name
+      → EditLeaves (deleteAt t r) a key size level kind name
+  unfolding deleted deleteDone gapOf
+  delete-made passes fall {a} {key} {size} {level} {kind} {name} left =
+      subst (λ (o : EditOutcome). EditLeaves o a key size level kind name)
+      (ap (λ (low : List ℕ). closedUp (tableOf (t .key) low (t .level) (t .kind) (t .name) (t .count)) r
+      (at (t .size) r + 1)) fall
+      ∙ sym (own-passed (deleteDone t r) (deleted t r) t passes))
+      left
 
-    -- the row and its descendants are in use
-    pub rows-fit : r + (at (t .size) r + 1) ≤ t .count
-    unfolding gapOf
-    rows-fit = gap-fits t (k .sound) r (k .in-use)
+  -- the columns still have the rows in use
+  pub low-in-use : {low : List ℕ}
+      → low ≡ changed (λ i. ancestor (t .level) i r) (λ s. s - (at (t .size) r + 1)) (t .size)
+      → InUse t → InUse (tableOf (t .key) low (t .level) (t .kind) (t .name) (t .count))
+  low-in-use fall u = record {
+    some = u .some;
+    few = u .few;
+    in-key = u .in-key;
+    in-size = omega (
+      arith,
+      u .in-size,
+      ap length fall,
+      length-changed (λ i. ancestor (t .level) i r)
+          (λ s. s - (at (t .size) r + 1)) (t .size),
+    );
+    in-level = u .in-level;
+    in-kind = u .in-kind;
+    in-name = u .in-name;
+  }
 
-    pub rows-lowerable : Lowerable (t .size) r (at (t .size) r + 1)
-    rows-lowerable = lowerable (sound-shape t (k .sound)) r (k .in-use)
+-- ── a root ──
+module _ (t : Table) (r : ℕ) (f : RowFound t (Root r)) where
+  -- the only one stays
+  pub root-refused : at (t .size) r + 1 ≡ t .count
+      → EditLeaves (deleteAt t r) (NotMade 15 0) (t .key) (t .size) (t .level) (t .kind) (t .name)
+  unfolding deleteCheck
+  root-refused e =
+      let lone = only-root-is t (f .known .sound) r (f .known .in-use) ∙ eq-eqb _ _ e in
+      leaves t (own-refused _ _ t (given-refused _ 15 0 15 0 .1 (lone, refl, refl)))
 
-    -- the sizes lowered, then every column closed up
-    pub delete-made : (at (t .size) r + 1 ≡ t .count → ⊥) → {d : Done} {low key size level kind name : List ℕ}
-        → low ≡ lowered (t .size) r (at (t .size) r + 1)
-        → key ≡ closed r (t .count) (at (t .size) r + 1) (t .key)
-        → size ≡ closed r (t .count) (at (t .size) r + 1) low
-        → level ≡ closed r (t .count) (at (t .size) r + 1) (t .level)
-        → kind ≡ closed r (t .count) (at (t .size) r + 1) (t .kind)
-        → name ≡ closed r (t .count) (at (t .size) r + 1) (t .name)
-        → d ≡ answered (t .count - (at (t .size) r + 1)) (r + (at (t .size) r + 1)) (minus (at (t .size) r + 1))
-        → EditLeaves (deleteAt t r) (Made d) key size level kind name
-    unfolding deleted deleteDone gapOf
-    delete-made ne fall keys sizes levels kinds names done =
-        let o = leaves (deleted t r) (own-passed (deleteDone t r) (deleted t r) t (delete-on ne)) in
-        record {
-          answers = ap Made done ∙ o .answers;
-          key-is = keys ∙ o .key-is;
-          size-is = sizes
-              ∙ ap (closed r (t .count) (at (t .size) r + 1))
-              (fall ∙ lowered-is (sound-shape t (k .sound)) r (k .in-use) (at (t .size) r + 1))
-              ∙ o .size-is;
-          level-is = levels ∙ o .level-is;
-          kind-is = kinds ∙ o .kind-is;
-          name-is = names ∙ o .name-is;
-        }
+  -- another goes
+  pub root-passes : (at (t .size) r + 1 ≡ t .count → ⊥) → deleteCheck t r ≡ Passed
+  unfolding deleteCheck
+  root-passes ne = given-not 15 0 (only-root-is t (f .known .sound) r (f .known .in-use) ∙ ne-eqb _ _ ne)
+
+  -- no row stands above it
+  pub root-sizes : (by : ℕ) → t .size ≡ changed (λ i. ancestor (t .level) i r) (λ s. s - by) (t .size)
+  root-sizes by =
+      sym (changed-none _ _ (t .size) (above-root (sound-shape t (f .known .sound)) r (f .known .in-use)
+      (root-stands (t .level) r r (sym (f .there)) .1)))
+
+-- ── a row under a parent ──
+module _ (t : Table) (c : Child) (f : RowFound t (Under c)) where
+  -- it always goes
+  pub child-passes : deleteCheck t (c .row) ≡ Passed
+  unfolding deleteCheck
+  child-passes =
+      let (same, deep, up) = under-stands (t .level) (c .row) c (sym (f .there)) in
+      let e : at (t .level) (c .parent) + 1 ≡ at (t .level) (c .row) = parent-less (t .level) (c .row) (c .parent) up in
+      given-not 15 0 (ap (λ (b : Bool). b && not (otherRoot (t .level) (t .count) (c .row)))
+      (ne-eqb (at (t .level) (c .row)) 0 (λ z. omega arith)))
+
+  -- its ancestors have the rows that go
+  pub child-held : (i : ℕ) → ancestor (t .level) i (c .row) ≡ true → at (t .size) (c .row) + 1 ≤ at (t .size) i
+  child-held i e =
+      let s = f .known .sound in
+      let l = f .known .in-use in
+      let u : Above (t .level) i (c .row) =
+      ancestor-under (t .level) (t .count) (sound-steps t s) i (c .row) l .0 e in
+      ancestor-larger t s (c .row) l i (omega (arith, u .after)) e

@@ -1,3 +1,4 @@
 pub mod OutcomeLaws
+pub mod FoundLaws
 pub mod DeleteLaws
 pub mod EditLeavesLaws

@@ -18,7 +18,7 @@ use Rattle.tree.specs.Table.{at}
 use Rattle.tree.specs.Tree.{parent}
 use Rattle.tree.specs.Rules.{Shape}
 use Rattle.tree.proofs.SearchLaws.{nearest-le}
-use Rattle.tree.proofs.RootLaws.{nearest-past}
+use Rattle.tree.proofs.TreeLaws.{parent-none}
 use Rattle.scan.specs.OneRole.{Parents}
 use Rattle.links.specs.Links.{aboveOf}
 
@@ -34,13 +34,6 @@ module _ (level : List ℕ) where
   parent-first : parent level 0 ≡ 0
   unfolding parent nearest
   parent-first = refl
-
-  -- a row of level 0 has no parent
-  parent-none : (w : ℕ) → at level w ≡ 0 → parent level w ≡ 0
-  unfolding parent nearest
-  parent-none w e =
-      nearest-past (λ k. eqb (at level k + 1) (at level w)) 0 w (omega arith)
-      (λ k a b. ne-eqb (at level k + 1) (at level w) (λ q. omega arith))
 
   last-here : (d i : ℕ) → at level i + 1 ≡ d → lastAbove level d (suc i) ≡ suc i
   unfolding lastAbove nearest

@@ -7,7 +7,7 @@ ghost use lib.ListN.{length};
 ghost use Rattle.tree.specs.Search.{someBelow};
 ghost use Rattle.tree.specs.Table.{tableOf, at, shortest};
 ghost use Rattle.tree.specs.Refusal.{badPiece, insertCheck};
-ghost use Rattle.table.specs.RowFound.{RowFound};
+ghost use Rattle.table.specs.RowFound.{RowKnown};
 use basics::either;
 use tree::Checked;
 
@@ -84,7 +84,7 @@ pub fn check_piece(
     p_name: &[usize],
     p_count: usize,
 ) -> Checked
-    requires { ⌜ RowFound (tableOf (now key) (now size) (now level) (now kind) (now name) count) row ⌝ }
+    requires { ⌜ RowKnown (tableOf (now key) (now size) (now level) (now kind) (now name) count) row ⌝ }
     ensures { λ r. ⌜ r ≡ insertCheck
         (tableOf (now (key .entry)) (now (size .entry)) (now (level .entry)) (now (kind .entry))
         (now (name .entry)) count) row

@@ -6,15 +6,17 @@ use Prim.Native.Nat.{ℕ}
 use Rattle.tree.specs.Table.{Table}
 use Rattle.tree.specs.Outcome.{StepOutcome, EditOutcome, checkOutcome, findOutcome}
 use Rattle.tree.specs.Carry.{CarryOutcome}
-use Rattle.answer.specs.Answer.{checkAnswer, findAnswer, StepAnswers, EditAnswers, CarryAnswers}
+use Rattle.answer.specs.Answer.{checkAnswer, StepAnswers, EditAnswers, CarryAnswers}
+use Rattle.answer.specs.Found.{findAnswer}
 use Rattle.answer.specs.declared.Answer.{Answer}
+use Rattle.answer.specs.declared.FoundAnswer.{FoundAnswer}
 
 pub check-only : (t : Table) {x y : Answer} → x ≡ checkAnswer (checkOutcome t) → y ≡ checkAnswer (checkOutcome t)
     → x ≡ y
 check-only t p q = p ∙ sym q
 
-pub find-only : (t : Table) (k : ℕ) {x y : Answer} → x ≡ findAnswer (findOutcome t k) → y ≡ findAnswer (findOutcome t k)
-    → x ≡ y
+pub find-only : (t : Table) (k : ℕ) {x y : FoundAnswer} → x ≡ findAnswer (findOutcome t k)
+    → y ≡ findAnswer (findOutcome t k) → x ≡ y
 find-only t k p q = p ∙ sym q
 
 pub step-only : {o : StepOutcome} {x y : Answer} {a b c d : List ℕ} → StepAnswers o x a b → StepAnswers o y c d

@@ -1,1 +1,2 @@
 pub mod AnswerOnlyLaws
+pub mod FindAnswerLaws

@@ -1,13 +1,15 @@
-// The library's functions under C names: include/reach.h. Each hands its slices on and puts the answer into one struct.
+// The library's functions under C names: include/reach.h. Each hands its slices on and puts the answer into a struct.
 ghost use mathlib.Core.Path.{_≡_};
 ghost use Rattle.tree.specs.Table.{tableOf};
 ghost use Rattle.tree.specs.Outcome.{checkOutcome, findOutcome, stepOutcome};
 ghost use Rattle.tree.specs.Outcome.{insertOutcome, deleteOutcome, renameOutcome};
 ghost use Rattle.tree.specs.Step.{askOf};
 ghost use Rattle.tree.specs.Carry.{carryOutcome};
-ghost use Rattle.answer.specs.Answer.{checkAnswer, findAnswer, StepAnswers, EditAnswers, CarryAnswers};
+ghost use Rattle.answer.specs.Answer.{checkAnswer, StepAnswers, EditAnswers, CarryAnswers};
+ghost use Rattle.answer.specs.Found.{findAnswer};
 ghost use Rattle.answer.specs.Version.{version};
 use answer::Answer;
+use answer::FoundAnswer;
 use tree::Ask;
 
 // The version of the library that is linked, which may be another than that of the header compiled against.
@@ -35,7 +37,7 @@ pub extern "C" fn reach_check(
     answer::of_check(table::check(key, size, level, kind, name, count))
 }
 
-// The row of a key in first, or refusal 1, 2 or 9.
+// The row of a key, its level and its parent's row, or refusal 1, 2 or 9.
 #[no_mangle]
 pub extern "C" fn reach_find(
     key: &[usize],
@@ -45,7 +47,7 @@ pub extern "C" fn reach_find(
     name: &[usize],
     count: usize,
     key_wanted: usize,
-) -> Answer
+) -> FoundAnswer
     ensures { λ r. ⌜ r ≡ findAnswer (findOutcome
         (tableOf (now (key .entry)) (now (size .entry)) (now (level .entry))
         (now (kind .entry)) (now (name .entry)) count) «key_wanted») ⌝ }

@@ -1,1 +1,2 @@
-pub mod SizePassLaws
+pub mod UpLaws
+pub mod StandsLaws

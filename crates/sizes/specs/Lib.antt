@@ -1,1 +1,1 @@
-pub mod Enclosing
+pub mod Upward

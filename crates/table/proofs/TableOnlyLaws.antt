@@ -14,5 +14,6 @@ check-only t p q = p ∙ sym q
 pub find-only : (t : Table) (k : ℕ) {x y : Found} → x ≡ findOutcome t k → y ≡ findOutcome t k → x ≡ y
 find-only t k p q = p ∙ sym q
 
-pub locate-only : (key : List ℕ) (n k : ℕ) {x y : Found} → x ≡ located key n k → y ≡ located key n k → x ≡ y
-locate-only key n k p q = p ∙ sym q
+pub locate-only : (key level : List ℕ) (n k : ℕ) {x y : Found} → x ≡ located key level n k → y ≡ located key level n k
+    → x ≡ y
+locate-only key level n k p q = p ∙ sym q

@@ -1,9 +1,8 @@
 // What every call checks first, and finding a row by its key: RULES 01, "The table" and "Finding and editing by
 // key". No column is changed.
 ghost use mathlib.Core.Path.{_≡_};
-ghost use Prim.Native.Nat.{_≤_};
-ghost use lib.ListN.{length};
 ghost use Rattle.tree.specs.Table.{tableOf};
+ghost use Rattle.tree.specs.Rules.{Sound};
 ghost use Rattle.tree.specs.Outcome.{checkOutcome, findOutcome, located};
 use tree::Checked;
 use tree::Found;
@@ -31,19 +30,27 @@ pub fn check(
     Checked::Passed
 }
 
-// The row of a key among the first rows, or refusal 9; for calls that have checked the table.
-pub fn locate(key: &[usize], count: usize, key_wanted: usize) -> Found
-    requires { ⌜ count ≤ length (now key) ⌝ }
-    ensures { λ r. ⌜ r ≡ located (now (key .entry)) count «key_wanted» ⌝ }
+// Where the row of a key stands, or refusal 9; for calls that have checked the table.
+pub fn locate(
+    key: &[usize],
+    size: &[usize],
+    level: &[usize],
+    kind: &[usize],
+    name: &[usize],
+    count: usize,
+    key_wanted: usize,
+) -> Found
+    requires { ⌜ Sound (tableOf (now key) (now size) (now level) (now kind) (now name) count) ⌝ }
+    ensures { λ r. ⌜ r ≡ located (now (key .entry)) (now (level .entry)) count «key_wanted» ⌝ }
 {
     let row = keys::row_of(key, count, key_wanted);
     if row < count {
-        return Found::At(row);
+        return Found::At(located::where_is(level, row));
     }
     Found::Refused(9, 0)
 }
 
-// The row of a key, or refusal 1, 2 or 9.
+// Where the row of a key stands, or refusal 1, 2 or 9.
 pub fn find(
     key: &[usize],
     size: &[usize],
@@ -60,6 +67,6 @@ pub fn find(
     let checked = check(key, size, level, kind, name, count);
     match checked {
         Checked::Refused(number, place) => Found::Refused(number, place),
-        Checked::Passed => locate(key, count, key_wanted),
+        Checked::Passed => locate(key, size, level, kind, name, count, key_wanted),
     }
 }

@@ -1,9 +1,9 @@
 -- The columns of an edited table: RULES 01, "Finding and editing by key". Where a row stands afterwards:
 -- `opened-stays`, `opened-moves`, `closed-stays`, `closed-moves`; the rows that came in, `opened-new`, the freed ones,
 -- `closed-freed`, and the spare ones, `opened-spare`, `closed-spare`; what a row holds where sizes change:
--- `changed-at`, `changed-not`, `changed-take`, `changed-after`. Rows in use and what follows them: `opened-is`,
--- `closed-is`. No column changes its length: `length-opened`, `length-closed`, `length-changed`. The part of a column
--- from a row on, lent and back: `tail-mid`, `tail-put`. Assumes nothing.
+-- `changed-at`, `changed-not`, `changed-take`, `changed-none`, `changed-after`. Rows in use and what follows them:
+-- `opened-is`, `closed-is`. No column changes its length: `length-opened`, `length-closed`, `length-changed`. The part
+-- of a column from a row on, lent and back: `tail-mid`, `tail-put`. Assumes nothing.
 use mathlib.Core.Path.{_≡_, refl, sym, ap, ap₂, _∙_}
 use mathlib.Core.Bool.{Bool, false, cond}
 use mathlib.Core.List.{List, [], _∷_, _++_, append-assoc, append-nil}
@@ -168,17 +168,19 @@ changed-take f g (suc n) [] = refl
 changed-take f g (suc n) (x ∷ xs) =
     ap (λ (z : List ℕ). cond (f zero) (g x) x ∷ z) (changed-take (λ i. f (suc i)) g n xs)
 
+-- where no row passes, nothing changes
+pub changed-none : (f : ℕ → Bool) (g : ℕ → ℕ) (xs : List ℕ) → ((i : ℕ) → f i ≡ false) → changed f g xs ≡ xs
+unfolding changed
+changed-none f g [] h = refl
+changed-none f g (x ∷ xs) h =
+    ap₂ (λ (b : Bool) (z : List ℕ). cond b (g x) x ∷ z) (h zero)
+    (changed-none (λ i. f (suc i)) g xs (λ i. h (suc i)))
+
 -- where no row from n on passes, nothing changes there
 pub changed-after : (f : ℕ → Bool) (g : ℕ → ℕ) (n : ℕ) (xs : List ℕ) → ((i : ℕ) → n ≤ i → f i ≡ false)
     → drop n (changed f g xs) ≡ drop n xs
 unfolding changed
 changed-after f g zero xs h = changed-none f g xs (λ i. h i (omega arith))
-  where
-    changed-none : (f : ℕ → Bool) (g : ℕ → ℕ) (xs : List ℕ) → ((i : ℕ) → f i ≡ false) → changed f g xs ≡ xs
-    changed-none f g [] h = refl
-    changed-none f g (x ∷ xs) h =
-        ap₂ (λ (b : Bool) (z : List ℕ). cond b (g x) x ∷ z) (h zero)
-        (changed-none (λ i. f (suc i)) g xs (λ i. h (suc i)))
 changed-after f g (suc n) [] h = refl
 changed-after f g (suc n) (x ∷ xs) h = changed-after (λ i. f (suc i)) g n xs (λ i l. h (suc i) (omega arith))
 

@@ -1,6 +1,5 @@
--- What the cases of the small farm (Farm, FarmKinds, FarmEdits, FarmRefusals) are made of: the farm and other tables,
--- the calls, what they give, and short forms of both.
--- Assumes nothing.
+-- What the cases of the small farm (Farm, FarmKinds, FarmFind, FarmEdits, FarmRefusals) are made of: the farm and
+-- other tables, the calls, what they give, and short forms of both. Assumes nothing.
 use Prim.Native.Nat.{ℕ, zero, suc, _-_}
 use mathlib.Core.List.{List, [], _∷_, _++_, map}
 use lib.IntN.{ℤ}
@@ -10,7 +9,9 @@ use Rattle.tree.specs.Step.{Ask, askOf}
 use Rattle.tree.specs.Outcome.{StepOutcome, EditOutcome, checkOutcome, findOutcome, stepOutcome}
 use Rattle.tree.specs.Outcome.{insertOutcome, deleteOutcome, renameOutcome}
 use Rattle.tree.specs.declared.Checked.{Checked}
+use Rattle.tree.specs.declared.Located.the-variants.{Root, Under}
 use Rattle.tree.specs.declared.Found.{Found}
+use Rattle.tree.specs.declared.Found.the-variants.{At}
 use Rattle.tree.specs.declared.Stepped.the-variants.{Listed, Refused as NotListed}
 use Rattle.tree.specs.declared.Edited.the-variants.{Made, Refused as NotMade}
 
@@ -93,6 +94,13 @@ refuses m p = stepped (record { answer = NotListed m p; role = replicate 8 77; r
 
 abbrev pub makes : ℕ → ℕ → ℤ → Table → Gives
 makes n f d t = edited (record { answer = Made (record { count = n; first = f; moved = d }); table = t })
+
+-- a row found: a root, or a row with its level and its parent's row
+abbrev pub aRoot : ℕ → Gives
+aRoot r = found (At (Root r))
+
+abbrev pub aChild : ℕ → ℕ → ℕ → Gives
+aChild r l p = found (At (Under (record { row = r; level = l; parent = p })))
 
 -- an edit refused: the table as it was
 abbrev pub keeps : ℕ → ℕ → Table → Gives

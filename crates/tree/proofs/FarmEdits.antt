@@ -15,13 +15,11 @@ use Rattle.tree.specs.Edit.{opened, closed, changed, gapOf, inserted, de
 use Rattle.tree.specs.Edit.{insertDone, deleteDone, renameDone}
 use Rattle.tree.specs.Refusal.{given, givenAt, next, tableCheck, keyCheck}
 use Rattle.tree.specs.Refusal.{badPiece, insertCheck, deleteCheck, renameCheck}
-use Rattle.tree.specs.Outcome.{checkOutcome, findOutcome, foundIf, located}
-use Rattle.tree.specs.Outcome.{editIf, editCheck, insertOutcome, deleteOutcome, renameOutcome}
+use Rattle.tree.specs.Outcome.{checkOutcome, editIf, editCheck, insertOutcome, deleteOutcome, renameOutcome}
 use Rattle.tree.specs.declared.Checked.the-variants.{Passed, Refused}
-use Rattle.tree.specs.declared.Found.the-variants.{At, Refused as NotFound}
 use Rattle.tree.proofs.FarmCalls.{farm, leaf, leafOf, twig, ladder, mixed, twoBad, run, Case, makes, keeps}
-use Rattle.tree.proofs.FarmCalls.Call.{check, find, insert, delete, rename}
-use Rattle.tree.proofs.FarmCalls.Gives.{checked, found}
+use Rattle.tree.proofs.FarmCalls.Call.{check, insert, delete, rename}
+use Rattle.tree.proofs.FarmCalls.Gives.{checked}
 
 -- the calls, with what each gives
 abbrev pub cases : List Case
@@ -85,11 +83,6 @@ cases =
     record { call = insert (ladder 63) 63 (leafOf 99); gives = keeps 14 0 (ladder 63) } ∷
     -- a table with two rows that are not sound: the lesser
     record { call = check twoBad; gives = checked (Refused 2 1) } ∷
-    record { call = find twoBad 30; gives = found (NotFound 2 1) } ∷
-    -- keys on the first and the last row are found; a key that only a spare row has is not
-    record { call = find farm 10; gives = found (At 0) } ∷
-    record { call = find farm 40; gives = found (At 9) } ∷
-    record { call = find farm 92; gives = found (NotFound 9 0) } ∷
     -- two rows, where each column in turn has but one
     record {
       call = check (tableOf (1 ∷ []) (1 ∷ 0 ∷ []) (0 ∷ 1 ∷ []) (1 ∷ 1 ∷ []) (4 ∷ 4 ∷ []) 2);
@@ -119,7 +112,7 @@ cases =
 
 -- each call gives what its case says
 pub farm-edits : map (λ c. run (c .call)) cases ≡ map (λ c. c .gives) cases
-unfolding checkOutcome findOutcome foundIf located editIf editCheck insertOutcome deleteOutcome renameOutcome given
+unfolding checkOutcome editIf editCheck insertOutcome deleteOutcome renameOutcome given
     givenAt next tableCheck keyCheck badPiece insertCheck deleteCheck renameCheck opened closed changed gapOf inserted
     deleted renamed minus insertDone deleteDone renameDone parent above ancestor otherRoot levelOk runOf sizeOf sizeOk
     kindOk hasName nameOk rowOf keyOk besideKeyOk rowOk firstBad shortest countOk least nearest someBelow

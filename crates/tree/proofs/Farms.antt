@@ -20,15 +20,15 @@ use Rattle.tree.specs.Edit.{opened, closed, changed, gapOf, inserted, de
 use Rattle.tree.specs.Edit.{insertDone, deleteDone, renameDone}
 use Rattle.tree.specs.Refusal.{given, givenAt, next, tableCheck, pairCheck, askCheck, roomCheck, keyCheck}
 use Rattle.tree.specs.Refusal.{badPiece, insertCheck, deleteCheck, renameCheck}
-use Rattle.tree.specs.Outcome.{checkOutcome, findOutcome, foundIf, located, stepOutcome, stepIf, stepCheck}
+use Rattle.tree.specs.Outcome.{checkOutcome, standsBy, standing, located, foundIf, findOutcome}
+use Rattle.tree.specs.Outcome.{stepOutcome, stepIf, stepCheck}
 use Rattle.tree.specs.Outcome.{overwritten, editIf, editCheck, insertOutcome, deleteOutcome, renameOutcome}
 use Rattle.tree.specs.Carry.{carriedBy}
 use Rattle.tree.specs.Trees.{pairsIn, sumWhere, overTrees, treeResults, treeKept}
 use Rattle.tree.specs.declared.Checked.the-variants.{Passed, Refused}
-use Rattle.tree.specs.declared.Found.the-variants.{At}
-use Rattle.tree.proofs.FarmCalls.{leaf, run, Case, Call, lists, makes, keeps}
+use Rattle.tree.proofs.FarmCalls.{leaf, run, Case, Call, lists, aRoot, makes, keeps}
 use Rattle.tree.proofs.FarmCalls.Call.{check, step, find, insert, delete, rename}
-use Rattle.tree.proofs.FarmCalls.Gives.{checked, found}
+use Rattle.tree.proofs.FarmCalls.Gives.{checked}
 
 -- three farms, with two spare rows: rows 0 to 3, rows 4 to 6 under a document, and row 7 alone
 abbrev pub farms : Table
@@ -165,7 +165,7 @@ cases =
     -- finding a root
     record {
       call = find farms 30;
-      gives = found (At 7);
+      gives = aRoot 7;
     } ∷
     -- a root is deleted with its descendants while another remains: the first, one between, the last
     record {
@@ -264,14 +264,13 @@ cases =
 
 -- each call gives what its case says
 pub several-farms : map (λ c. run (c .call)) cases ≡ map (λ c. c .gives) cases
-unfolding checkOutcome findOutcome foundIf located stepOutcome stepIf stepCheck overwritten editIf editCheck
-    insertOutcome deleteOutcome renameOutcome given givenAt next tableCheck pairCheck askCheck roomCheck keyCheck
-    badPiece insertCheck deleteCheck renameCheck opened closed changed gapOf inserted deleted renamed minus insertDone
-    deleteDone renameDone drops remaining keptCount listed reached linesOf stepList pairsOf withRole rolesOf rowsOf
-    before outOfOrder some distinct testOk passes axisOk following preceding onAxis parent above ancestor siblings root
-    sameTree otherRoot
-    levelOk runOf sizeOf sizeOk kindOk hasName nameOk rowOf keyOk besideKeyOk rowOk firstBad shortest countOk least
-    nearest someBelow gather
+unfolding checkOutcome findOutcome foundIf located standing standsBy stepOutcome stepIf stepCheck overwritten editIf
+    editCheck insertOutcome deleteOutcome renameOutcome given givenAt next tableCheck pairCheck askCheck roomCheck
+    keyCheck badPiece insertCheck deleteCheck renameCheck opened closed changed gapOf inserted deleted renamed minus
+    insertDone deleteDone renameDone drops remaining keptCount listed reached linesOf stepList pairsOf withRole rolesOf
+    rowsOf before outOfOrder some distinct testOk passes axisOk following preceding onAxis parent above ancestor
+    siblings root sameTree otherRoot levelOk runOf sizeOf sizeOk kindOk hasName nameOk rowOf keyOk besideKeyOk rowOk
+    firstBad shortest countOk least nearest someBelow gather
 several-farms = refl
 
 -- preceding on each farm by itself: what it lists and keeps, and that the whole call above has the sums

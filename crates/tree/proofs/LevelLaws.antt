@@ -123,7 +123,7 @@ gather-one-more f g p a b h (suc n) l =
 
 module _ {size level : List ℕ} {n : ℕ} (s : Shape size level n) where
   -- no row is its own ancestor
-  not-own : (p : ℕ) → p < n → ancestor level p p ≡ false
+  pub not-own : (p : ℕ) → p < n → ancestor level p p ≡ false
   not-own p l =
       false-of (ancestor level p p) (λ e. omega (arith, ancestor-under level n (shape-steps s) p p l .0 e .after))
 

@@ -29,6 +29,7 @@ pub mod Commute
 pub mod SizeLaws
 pub mod GoodEditLaws
 pub mod EditLaws
+pub mod StandingLaws
 pub mod FindLaws
 pub mod CheckLaws
 pub mod TableRefusals
@@ -45,6 +46,7 @@ pub mod FarmRefusals
 pub mod FarmSpare
 pub mod FarmCarry
 pub mod Farms
+pub mod FarmFind
 pub mod OneTreeLaws
 pub mod PartLaws
 pub mod PartStep

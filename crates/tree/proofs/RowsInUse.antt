@@ -11,7 +11,7 @@ use Prim.Native.Nat.{ℕ, zero, suc, _+_, _-_, _<_, _≤_, min}
 use native.Mathlib.Nat.{zero-sub}
 use native.Mathlib.Numerals.{unary-clauses}
 use native.Mathlib.Omega.{arith}
-use borrow.Author.Tests.{leb-true, le-leb}
+use borrow.Author.Tests.{ltb-true, leb-true, le-leb}
 use lib.Dec.{eqb, ltb, leb}
 use lib.ListN.{take, drop, length-take}
 use lib.Seq.{take-take, getD-take}
@@ -25,9 +25,11 @@ use Rattle.tree.specs.Pairs.{Pair, pairsOf, withRole, some, distinct}
 use Rattle.tree.specs.Step.{Ask, listed, reached, linesOf, stepList}
 use Rattle.tree.specs.Kept.{drops, remaining, keptCount}
 use Rattle.tree.specs.Refusal.{next, tableCheck, pairCheck}
-use Rattle.tree.specs.Outcome.{checkOutcome, located, findOutcome, stepIf, stepCheck, stepOutcome}
+use Rattle.tree.specs.Outcome.{checkOutcome, standsBy, standing, located, foundIf, findOutcome, foundAt}
+use Rattle.tree.specs.Outcome.{stepIf, stepCheck, stepOutcome}
 use Rattle.tree.specs.declared.Checked.{Checked}
 use Rattle.tree.specs.declared.Checked.the-variants.{Passed, Refused}
+use Rattle.tree.specs.declared.Found.the-variants.{At, Refused as NotFound}
 use Rattle.tree.proofs.SearchLaws.{least-ext, gather-ext}
 use Rattle.tree.proofs.TreeLaws.{parent-below}
 use Rattle.tree.proofs.AxisLaws.{same-test}
@@ -177,10 +179,21 @@ module _ (t : Table) where
   unfolding tableCheck
   cut-check = rw (cut-count, cut-bad)
 
-  -- a find
+  -- a find: where a row in use stands
+  cut-stands : (r : ℕ) (b : Bool) → ltb r (t .count) ≡ b
+      → cond b (foundAt (cut t) r) (NotFound 9 0) ≡ cond b (foundAt t r) (NotFound 9 0)
+  unfolding standing
+  cut-stands r false e = refl
+  cut-stands r true e =
+      let l : r < t .count = ltb-true _ _ e in
+      ap₂ (λ (d q : ℕ). At (standsBy r d q)) (getD-take (t .count) (t .level) r 0 l)
+      (cut-parent (t .count) (t .level) r l)
+
   cut-found : (k : ℕ) → findOutcome (cut t) k ≡ findOutcome t k
   unfolding findOutcome located
-  cut-found k = rw (cut-check, cut-find (t .count) (t .key) (t .count) k (omega arith))
+  cut-found k =
+      rw (cut-check, cut-find (t .count) (t .key) (t .count) k (omega arith))
+      (ap (foundIf (tableCheck t)) (cut-stands (rowOf (t .key) (t .count) k) _ refl))
 
 -- ── the step ──
 -- two tests that agree on the rows of the pairs pass on the same

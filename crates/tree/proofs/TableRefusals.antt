@@ -19,14 +19,15 @@ use Rattle.tree.specs.Step.{Ask, stepList}
 use Rattle.tree.specs.EditRules.{NoKey}
 use Rattle.tree.specs.Refusal.{given, givenAt, next, tableCheck, pairCheck, askCheck, roomCheck, keyCheck}
 use Rattle.tree.specs.Refusal.{insertCheck, deleteCheck, renameCheck}
-use Rattle.tree.specs.Outcome.{checkOutcome, located, foundIf, findOutcome, stepIf, stepCheck, stepOutcome}
+use Rattle.tree.specs.Outcome.{checkOutcome, located, foundIf, findOutcome, foundAt}
+use Rattle.tree.specs.Outcome.{stepIf, stepCheck, stepOutcome}
 use Rattle.tree.specs.Outcome.{editIf, editCheck, insertOutcome, deleteOutcome, renameOutcome}
 use Rattle.tree.specs.Request.{Request, check, find, step, insert, delete, rename, tableIn, refusal, numbersOf}
 use Rattle.tree.specs.Request.{ofFound, ofStepped, ofEdited}
 use Rattle.tree.specs.RefusalRules.{Least, WrongCount, KeyMissing}
 use Rattle.tree.specs.declared.Checked.{Checked}
 use Rattle.tree.specs.declared.Checked.the-variants.{Passed, Refused}
-use Rattle.tree.specs.declared.Found.the-variants.{At, Refused as NotFound}
+use Rattle.tree.specs.declared.Found.the-variants.{Refused as NotFound}
 use Rattle.tree.specs.declared.Done.{Done}
 use Rattle.tree.proofs.SoundLaws.{row-ok, count-ok, table-passes}
 use Rattle.tree.proofs.AcceptLaws.{no-key}
@@ -54,12 +55,12 @@ next-none (Refused m p) = refl
 
 -- finding
 of-found : (c : Checked) (t : Table) (k : ℕ)
-    → ofFound (foundIf c (located (t .key) (t .count) k)) ≡ next c (keyCheck t k)
+    → ofFound (foundIf c (located (t .key) (t .level) (t .count) k)) ≡ next c (keyCheck t k)
 unfolding ofFound foundIf located next keyCheck given
 of-found (Refused m p) t k = refl
 of-found Passed t k = go (ltb (rowOf (t .key) (t .count) k) (t .count))
   where
-    go : (b : Bool) → ofFound (cond b (At (rowOf (t .key) (t .count) k)) (NotFound 9 0)) ≡ given (not b) 9 0
+    go : (b : Bool) → ofFound (cond b (foundAt t (rowOf (t .key) (t .count) k)) (NotFound 9 0)) ≡ given (not b) 9 0
     go true = refl
     go false = refl
 

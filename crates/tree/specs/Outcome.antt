@@ -1,11 +1,12 @@
 -- What each public call answers, and what the lent columns hold afterwards: on every input, on refusals too.
 -- Assumes nothing.
-use Prim.Native.Nat.{ℕ}
+use Prim.Native.Nat.{ℕ, zero, suc}
 use mathlib.Core.Bool.{cond}
 use mathlib.Core.List.{List, _++_}
 use lib.Dec.{ltb}
 use lib.ListN.{length, drop}
-use Rattle.tree.specs.Table.{Table}
+use Rattle.tree.specs.Table.{Table, at}
+use Rattle.tree.specs.Tree.{parent}
 use Rattle.tree.specs.Sound.{rowOf}
 use Rattle.tree.specs.Pairs.{Pair, pairsOf, rolesOf, rowsOf}
 use Rattle.tree.specs.Step.{Ask, stepList}
@@ -15,6 +16,8 @@ use Rattle.tree.specs.Refusal.{next, tableCheck, pairCheck, askCheck, ro
 use Rattle.tree.specs.Refusal.{keyCheck, insertCheck, deleteCheck, renameCheck}
 use Rattle.tree.specs.declared.Checked.{Checked}
 use Rattle.tree.specs.declared.Checked.the-variants.{Passed, Refused}
+use Rattle.tree.specs.declared.Located.{Located}
+use Rattle.tree.specs.declared.Located.the-variants.{Root, Under}
 use Rattle.tree.specs.declared.Found.{Found}
 use Rattle.tree.specs.declared.Found.the-variants.{At, Refused as NotFound}
 use Rattle.tree.specs.declared.Stepped.{Stepped}
@@ -28,19 +31,37 @@ use Rattle.tree.specs.declared.Edited.the-variants.{Made, Refused as Not
 unfoldable pub checkOutcome : Table → Checked
 checkOutcome t = tableCheck t
 
--- ── find: 1, 2, 9 ──
--- the row of a key among the first n rows, or 9
-unfoldable pub located : List ℕ → ℕ → ℕ → Found
-located key n k = cond (ltb (rowOf key n k) n) (At (rowOf key n k)) (NotFound 9 0)
+-- ── find: 1, 2, 9; RULES 02, E3 ──
+-- row r of the level l, by one more than its parent's row: a root where it has no parent
+unfoldable pub standsBy : ℕ → ℕ → ℕ → Located
+standsBy r l zero = Root r
+standsBy r l (suc p) = Under (record { row = r; level = l; parent = p })
+
+-- where row r stands, by the levels
+unfoldable pub standing : List ℕ → ℕ → Located
+standing level r = standsBy r (at level r) (parent level r)
+
+-- the row that stands there
+abbrev pub rowThere : Located → ℕ
+rowThere (Root r) = r
+rowThere (Under c) = c .row
+
+-- where the row of a key stands, among the first n rows, or 9
+unfoldable pub located : List ℕ → List ℕ → ℕ → ℕ → Found
+located key level n k = cond (ltb (rowOf key n k) n) (At (standing level (rowOf key n k))) (NotFound 9 0)
 
 -- what was found, once the check passed, or the refusal of the check
 unfoldable pub foundIf : Checked → Found → Found
 foundIf Passed f = f
 foundIf (Refused m p) f = NotFound m p
 
--- what finding a key answers: the row that has it
+-- what finding a key answers: the row that has it, its level and its parent's row
 unfoldable pub findOutcome : Table → ℕ → Found
-findOutcome t k = foundIf (tableCheck t) (located (t .key) (t .count) k)
+findOutcome t k = foundIf (tableCheck t) (located (t .key) (t .level) (t .count) k)
+
+-- the answer that row r of t is found
+abbrev pub foundAt : Table → ℕ → Found
+foundAt t r = At (standing (t .level) r)
 
 -- ── step: 1 to 8 ──
 -- what a step answers, and the result columns as it leaves them

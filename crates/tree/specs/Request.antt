@@ -36,7 +36,7 @@ tableIn (rename t k m) = t
 
 -- ── what an answer says: the call passed, or the number and place of its refusal ──
 unfoldable pub ofFound : Found → Checked
-ofFound (At i) = Passed
+ofFound (At l) = Passed
 ofFound (NotFound m p) = Refused m p
 
 unfoldable pub ofStepped : Stepped → Checked

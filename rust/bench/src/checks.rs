@@ -1,4 +1,4 @@
-//! Check and find.
+//! Checks.
 
 use crate::race::{Race, Times};
 use crate::report::{figure, Group};
@@ -29,7 +29,6 @@ pub fn run(race: &Race) {
     }
     group.mean();
     one_bucket(race);
-    find(race);
     println!();
     println!("growth of the library's check");
     for (name, shape) in SHAPES {
@@ -52,20 +51,4 @@ fn one_bucket(race: &Race) {
         let times = check_time(race, &Columns { key, ..flat(rows) });
         group.line(&format!("{rows} rows, flat"), times);
     }
-}
-
-fn find(race: &Race) {
-    let mut group = Group::new("find, microseconds a call");
-    for (name, shape) in SHAPES {
-        for rows in [64, 512, 4_096] {
-            let table = shape(rows);
-            let key_wanted = table.key[rows * 3 / 4];
-            let times = race.time(|engine| engine.find(&table, key_wanted));
-            group.line(&format!("{rows} rows, {name}"), times);
-        }
-    }
-    let table = flat(4_096);
-    let times = race.time(|engine| engine.find(&table, 0));
-    group.line("4096 rows, a key that is missing", times);
-    group.mean();
 }

@@ -1,11 +1,12 @@
-//! Edits of a plant of up to 4,096 rows, and of nine farms in one table.
+//! Edits of a plant of up to 4,096 rows, of nine farms in one table, and of tables with a long way up
+//! from the row to its root.
 
-use crate::race::Race;
+use crate::race::{Race, Times};
 use crate::report::Group;
-use crate::tables::{farms, plant, with_room};
+use crate::tables::{deep, farms, flat, plant, wide, with_room};
 use lent::{scattered_key, Columns};
 
-/// The geometric mean of all edits against plain Rust with memmove, and the worst.
+/// The geometric mean of the edits of a group against plain Rust with memmove, and the worst.
 const MEAN_BAR: f64 = 1.3;
 const WORST_BAR: f64 = 2.5;
 /// The deletion of a farm takes at most so many times what plain Rust takes.
@@ -18,21 +19,21 @@ const FRONT: usize = 2;
 const END: usize = 0;
 
 pub fn run(race: &Race) {
+    plants(race);
+    ways_up(race);
+}
+
+fn plants(race: &Race) {
     let mut group = Group::new("edit, microseconds a call");
     for rows in [1, 500] {
-        let count = ROWS - rows;
-        let (table, piece) = (plant(count), piece(rows));
-        let start = with_room(table.clone(), ROWS);
-        for (place, parent) in [("near the front", FRONT), ("at the end", END)] {
-            let parent_key = table.key[parent];
-            let times = race
-                .time_edit(&start, |engine, table| engine.insert(table, count, parent_key, &piece));
+        let (table, piece) = (plant(ROWS - rows), piece(rows));
+        let places = [("near the front", FRONT), ("at the end", END)];
+        for (place, parent) in places {
+            let times = insertion(race, &table, parent, &piece);
             group.line(&format!("insert {rows} rows {place}"), times);
         }
-        for (place, parent) in [("near the front", FRONT), ("at the end", END)] {
-            let full = with_piece(&table, parent, &piece);
-            let key_wanted = piece.key[0];
-            let times = race.time_edit(&full, |engine, table| engine.delete(table, key_wanted));
+        for (place, parent) in places {
+            let times = deletion(race, &table, parent, &piece);
             group.line(&format!("delete {rows} rows {place}"), times);
         }
     }
@@ -47,6 +48,42 @@ pub fn run(race: &Race) {
         group.line_with_bar(&format!("delete the {which} of nine farms"), times, FARM_BAR);
     }
     group.mean_and_worst(MEAN_BAR, WORST_BAR);
+}
+
+/// One row comes in or goes, and the sizes above it change: past all rows of a flat table, through 63
+/// levels, and at each of these levels past 64 siblings.
+fn ways_up(race: &Race) {
+    let mut group = Group::new("edit of one row, with a long way up");
+    let (count, piece) = (ROWS - 1, piece(1));
+    let (middle, last) = (count / 2, count - 1);
+    let tables = [
+        ("flat", flat(count), last),
+        ("63 deep", deep(count), last),
+        // What stands in the last row is too deep to have a child.
+        ("63 deep and wide", wide(count), 62 * 65),
+    ];
+    for (name, table, above_end) in tables {
+        for (place, parent) in [("in the middle", middle), ("at the end", above_end)] {
+            let times = insertion(race, &table, parent, &piece);
+            group.line(&format!("insert {place}, {name}"), times);
+            let times = deletion(race, &table, parent, &piece);
+            group.line(&format!("delete {place}, {name}"), times);
+        }
+    }
+    group.mean_and_worst(MEAN_BAR, WORST_BAR);
+}
+
+/// The piece comes in under the parent.
+fn insertion(race: &Race, table: &Columns, parent: usize, piece: &Columns) -> Times {
+    let (count, parent_key) = (table.key.len(), table.key[parent]);
+    let start = with_room(table.clone(), count + piece.key.len());
+    race.time_edit(&start, |engine, table| engine.insert(table, count, parent_key, piece))
+}
+
+/// The piece, which stands under the parent, goes.
+fn deletion(race: &Race, table: &Columns, parent: usize, piece: &Columns) -> Times {
+    let full = with_piece(table, parent, piece);
+    race.time_edit(&full, |engine, table| engine.delete(table, piece.key[0]))
 }
 
 /// A part of a plant, with keys of its own.

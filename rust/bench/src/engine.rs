@@ -4,7 +4,7 @@ use crate::carries::{Carry, Room};
 use crate::steps::Step;
 use lent::{lend, lend_mut, lend_pairs, lend_results, Columns};
 
-/// What both programs must answer alike: the refusal and the two numbers after it.
+/// What both programs must answer alike: the refusal and two numbers after it.
 pub type Seen = (usize, usize, usize);
 
 /// A program that can be timed. Every row is in use; only an insertion has spare rows, and so a
@@ -28,6 +28,14 @@ macro_rules! seen {
     }};
 }
 
+/// The same of a find: the row and its parent.
+macro_rules! seen_found {
+    ($found:expr) => {{
+        let found = $found;
+        (found.refusal, found.row, found.parent as usize)
+    }};
+}
+
 /// Plain, unverified Rust.
 pub struct Plain;
 
@@ -37,7 +45,7 @@ impl Engine for Plain {
     }
 
     fn find(&self, table: &Columns, key_wanted: usize) -> Seen {
-        seen!(plain::find(&lend!(plain, table), key_wanted))
+        seen_found!(plain::find(&lend!(plain, table), key_wanted))
     }
 
     fn step(&self, table: &Columns, step: &mut Step) -> Seen {
@@ -89,7 +97,7 @@ impl Engine for Library {
     }
 
     fn find(&self, table: &Columns, key_wanted: usize) -> Seen {
-        seen!(reach::boundary::find(lend!(reach, table), key_wanted))
+        seen_found!(reach::boundary::find(lend!(reach, table), key_wanted))
     }
 
     fn step(&self, table: &Columns, step: &mut Step) -> Seen {

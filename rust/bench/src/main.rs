@@ -10,6 +10,7 @@ mod checks;
 mod edits;
 mod engine;
 mod farms;
+mod finds;
 mod growth;
 mod race;
 mod report;
@@ -32,6 +33,7 @@ fn race() {
     let race = Race { ours: ours(), plain: Box::new(Plain) };
     println!("each line takes about a tenth of a second");
     checks::run(&race);
+    finds::run(&race);
     steps::run(&race);
     farms::run(&race);
     growth::run(&race);

@@ -12,6 +12,12 @@ pub fn deep(rows: usize) -> Columns {
     from_levels((0..rows).map(|row| if row == 0 { 0 } else { (row - 1) % 63 + 1 }).collect())
 }
 
+/// At each level 64 rows, and then the one that the next level stands below: as deep as `deep`, and
+/// from one ancestor to the next it is 65 rows.
+pub fn wide(rows: usize) -> Columns {
+    from_levels((0..rows).map(|row| row.div_ceil(65)).collect())
+}
+
 /// Elements at these levels, named by their level.
 fn from_levels(level: Vec<usize>) -> Columns {
     let rows = level.len();

@@ -106,7 +106,8 @@ pub struct Case {
     pub call: Call,
 }
 
-/// The numbers that every call answers with.
+/// The numbers that calls answer with. What a call doesn't use is 0: a find has a row, a level and a
+/// parent, the other calls have the three numbers before them.
 #[derive(Clone, Copy, Debug, Default, PartialEq, Eq)]
 pub struct Answer {
     pub refusal: usize,
@@ -114,11 +115,19 @@ pub struct Answer {
     pub first: usize,
     pub second: usize,
     pub moved: i64,
+    pub row: usize,
+    pub level: usize,
+    pub parent: i64,
 }
 
 impl Answer {
     pub fn refused(number: usize, place: usize) -> Answer {
         Answer { refusal: number, place, ..Answer::default() }
+    }
+
+    /// Of a find: where the row of the key stands. The parent of a root is -1.
+    pub fn found(row: usize, level: usize, parent: i64) -> Answer {
+        Answer { row, level, parent, ..Answer::default() }
     }
 }
 

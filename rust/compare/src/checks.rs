@@ -7,21 +7,26 @@ use crate::keys::sharing_rows;
 use crate::options::Part;
 use crate::random::Random;
 use crate::series::{self, Series};
-use crate::tables::{add_spare_rows, lengthen, some_key, sound, sound_sharing, sound_trees};
+use crate::tables::{
+    add_spare_rows, lengthen, some_key, sound, sound_below, sound_sharing, sound_trees,
+};
 use lent::Columns;
 
 /// How many calls on small tables the default run makes.
 pub const CALLS: u64 = 300_000;
 
 /// Small tables, then tall ones about the deepest level, then large ones about the most rows and
-/// the most trees, then some whose keys share buckets.
+/// the most trees, then some whose keys share buckets, then finds of rows deep down and far from
+/// their parents.
 pub fn run(judge: &mut Judge<'_>, seed: u64, calls: u64) -> Result<(), Difference> {
-    let all: [Series; 5] = [
+    let all: [Series; 7] = [
         ("check small", calls, small),
         ("check tall", calls / 8, tall),
         ("check large", calls / 300, large),
         ("check most trees", calls / 1_200, most_trees),
         ("check shared buckets", calls / 60, shared_buckets),
+        ("find deep down", calls / 60, deep_down),
+        ("find far from the parent", calls / 600, far_from_parent),
     ];
     series::run(Part::Check, seed, &all, |_, case| judge.pose(case).map(drop))
 }
@@ -84,6 +89,33 @@ fn shared_buckets(random: &mut Random) -> Case {
     let key_wanted = random.pick(&[held, spare, missing]);
     let call = if random.chance(40) { Call::Check } else { Call::Find { key_wanted } };
     Case { table, count, call }
+}
+
+/// A row below a chain, which has at most a few siblings before it.
+fn deep_down(random: &mut Random) -> Case {
+    let rows = random.within(2, 20);
+    last_child(random, rows)
+}
+
+/// A row below a chain, as a rule with more than a thousand rows between it and its parent.
+fn far_from_parent(random: &mut Random) -> Case {
+    let rows = random.within(1_100, 4_000);
+    last_child(random, rows)
+}
+
+/// Finds the last child of the row that stands above so many others, at the end of a chain.
+fn last_child(random: &mut Random, rows: usize) -> Case {
+    let any = random.within(0, 62);
+    let chain = random.pick(&[0, any, 62]);
+    let mut table = sound_below(random, chain, rows);
+    let row = table.level.iter().rposition(|&level| level == chain + 1);
+    let key_wanted = table.key[row.expect("the first of the rows has a child")];
+    add_spare_rows(random, &mut table, 3);
+    let mut count = chain + rows;
+    if random.chance(5) {
+        spoil(random, &mut table, &mut count);
+    }
+    Case { table, count, call: Call::Find { key_wanted } }
 }
 
 /// Half of the tables stay sound.

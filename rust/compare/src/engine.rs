@@ -11,18 +11,23 @@ pub trait Engine {
     fn answer(&self, case: &mut Case) -> Answer;
 }
 
-/// Takes over an answer of another package, which has the same five numbers.
+/// Takes over the answers of a package, which have the same numbers.
 macro_rules! same_numbers {
-    ($answer:expr) => {{
-        let answer = $answer;
-        Answer {
-            refusal: answer.refusal,
-            place: answer.place,
-            first: answer.first,
-            second: answer.second,
-            moved: answer.moved,
+    ($($package:ident)::+) => {
+        impl From<$($package)::+::Answer> for Answer {
+            fn from(answer: $($package)::+::Answer) -> Answer {
+                let $($package)::+::Answer { refusal, place, first, second, moved, .. } = answer;
+                Answer { refusal, place, first, second, moved, ..Answer::default() }
+            }
         }
-    }};
+
+        impl From<$($package)::+::Found> for Answer {
+            fn from(found: $($package)::+::Found) -> Answer {
+                let $($package)::+::Found { refusal, place, row, level, parent, .. } = found;
+                Answer { refusal, place, row, level, parent, ..Answer::default() }
+            }
+        }
+    };
 }
 
 /// A program whose package has the same functions over types of its own.
@@ -40,38 +45,46 @@ macro_rules! engine {
                 use $package::Question;
                 let Case { table, count, call } = case;
                 let count = *count;
-                same_numbers!(match call {
-                    Call::Check => $package::check(&lend!($package, table, count)),
-                    Call::Find { key_wanted } =>
-                        $package::find(&lend!($package, table, count), *key_wanted),
+                match call {
+                    Call::Check => $package::check(&lend!($package, table, count)).into(),
+                    Call::Find { key_wanted } => {
+                        $package::find(&lend!($package, table, count), *key_wanted).into()
+                    }
                     Call::Step(step) => $package::step(
                         &lend!($package, table, count),
                         &lend_pairs!($package, step.lists),
                         Question { axis: step.axis, test: step.test, test_name: step.test_name },
                         &mut lend_results!($package, step.lists),
-                    ),
+                    )
+                    .into(),
                     Call::Insert(insert) => $package::insert(
                         &mut lend_mut!($package, table, count),
                         insert.parent_key,
                         &lend!($package, insert.piece, insert.piece_count),
-                    ),
-                    Call::Delete { key_wanted } =>
-                        $package::delete(&mut lend_mut!($package, table, count), *key_wanted),
+                    )
+                    .into(),
+                    Call::Delete { key_wanted } => {
+                        $package::delete(&mut lend_mut!($package, table, count), *key_wanted).into()
+                    }
                     Call::Rename { key_wanted, new_name } => $package::rename(
                         &mut lend_mut!($package, table, count),
                         *key_wanted,
                         *new_name,
-                    ),
+                    )
+                    .into(),
                     Call::Carry(carry) => $package::carry(
                         &lend_pairs!($package, carry.lists),
                         count,
                         carry.first,
                         carry.moved,
                         &mut lend_results!($package, carry.lists),
-                    ),
-                })
+                    )
+                    .into(),
+                }
             }
         }
+
+        same_numbers!($package);
     };
 }
 

@@ -52,9 +52,10 @@ fn checks(judge: &mut Judge<'_>) -> Result<(), Difference> {
     };
     let find = |key_wanted: usize| Call::Find { key_wanted };
     unchanged("the farm is sound", farm(), 10, Call::Check, Answer::default())?;
-    for (row, key) in farm().key.into_iter().enumerate() {
-        let stated = Answer { first: row, ..Answer::default() };
-        unchanged("a key is found", farm(), 10, find(key), stated)?;
+    let parents = [-1, 0, 1, 2, 1, 4, 0, 6, 7, 0];
+    for (row, parent) in parents.into_iter().enumerate() {
+        let stated = Answer::found(row, farm().level[row], parent);
+        unchanged("a key is found", farm(), 10, find(farm().key[row]), stated)?;
     }
     for key in [0, 11, usize::MAX] {
         unchanged("a key is not found", farm(), 10, find(key), Answer::refused(9, 0))?;
@@ -62,9 +63,16 @@ fn checks(judge: &mut Judge<'_>) -> Result<(), Difference> {
     for count in [0, 11, 4_096, 4_097, usize::MAX] {
         unchanged("a bad count", farm(), count, Call::Check, Answer::refused(1, 0))?;
     }
+    for key in [0, 20] {
+        unchanged("a bad count", farm(), 11, find(key), Answer::refused(1, 0))?;
+    }
     unchanged("level 63", chain(64), 64, Call::Check, Answer::default())?;
+    unchanged("a row at level 63", chain(64), 64, find(64), Answer::found(63, 63, 62))?;
     unchanged("level 64", chain(65), 65, Call::Check, Answer::refused(2, 64))?;
     let mut broken = farm();
     broken.level[8] = 1;
-    unchanged("an earlier size", broken, 10, Call::Check, Answer::refused(2, 6))
+    for call in [Call::Check, find(0), find(20)] {
+        unchanged("an earlier size", broken.clone(), 10, call, Answer::refused(2, 6))?;
+    }
+    Ok(())
 }

@@ -1,12 +1,14 @@
 //! What must come up in a run beside the refusals, so that a generator that drifts is noticed.
 
 mod carries;
+mod finds;
 mod keys;
 mod trees;
 
 use crate::case::{Answer, Call, Case, Lists};
 use crate::options::Part;
 use carries::{CARRIES, CIRCLES};
+use finds::FINDS;
 use keys::KEYS;
 use trees::TREES;
 
@@ -31,12 +33,13 @@ impl Note {
 
 /// All notes, in the order of the parts, then those about several trees and about shared buckets.
 pub fn all() -> impl Iterator<Item = &'static Note> {
-    let by_part = CHECKS.iter().chain(&LISTS).chain(&STEPS).chain(&EDITS);
+    let by_part = CHECKS.iter().chain(&FINDS).chain(&LISTS).chain(&STEPS).chain(&EDITS);
     by_part.chain(&CARRIES).chain(&CIRCLES).chain(&TREES).chain(&KEYS)
 }
 
 /// How many notes there are.
 pub const COUNT: usize = CHECKS.len()
+    + FINDS.len()
     + LISTS.len()
     + STEPS.len()
     + EDITS.len()

@@ -40,10 +40,22 @@ pub fn sound(random: &mut Random, rows: usize, deepest: usize) -> Columns {
 pub fn sound_trees(random: &mut Random, rows: usize, trees: usize, deepest: usize) -> Columns {
     let roots = roots(random, rows, trees);
     let level = levels(random, &roots, rows, deepest);
+    with_levels(random, level)
+}
+
+/// A sound table of one tree: a chain of so many rows, and below it so many rows with one above all
+/// the others.
+pub fn sound_below(random: &mut Random, chain: usize, rows: usize) -> Columns {
+    let below = levels(random, &[0], rows, 63 - chain);
+    with_levels(random, (0..chain).chain(below.into_iter().map(|level| chain + level)).collect())
+}
+
+/// A sound table with these levels.
+fn with_levels(random: &mut Random, level: Vec<usize>) -> Columns {
     let size = sizes(&level);
-    let kind = kinds(random, &roots, &size);
+    let kind = kinds(random, &level, &size);
     let name = kind.iter().map(|&kind| name_for(random, kind)).collect();
-    Columns { key: some_keys(random, rows), size, level, kind, name }
+    Columns { key: some_keys(random, level.len()), size, level, kind, name }
 }
 
 /// A sound table of so many rows whose keys share buckets, and so many other keys of these buckets.
@@ -94,12 +106,12 @@ fn next_level(random: &mut Random, shape: Shape, before: usize, deepest: usize) 
 }
 
 /// Kinds that fit the sizes; now and then a root is a document.
-fn kinds(random: &mut Random, roots: &[usize], size: &[usize]) -> Vec<usize> {
+fn kinds(random: &mut Random, level: &[usize], size: &[usize]) -> Vec<usize> {
     let mut kinds: Vec<usize> = size
         .iter()
         .map(|&size| if size > 0 { 1 } else { random.pick(&[1, 1, 1, 2, 3, 4]) })
         .collect();
-    for &root in roots {
+    for root in (0..level.len()).filter(|&row| level[row] == 0) {
         if random.chance(25) {
             kinds[root] = 0;
         }

@@ -11,6 +11,8 @@ const TESTS: usize = 8;
 
 /// How often a refusal must come up in each part that can give it.
 const LEAST_REFUSALS: u64 = 1_000;
+/// How many finds there must be.
+const LEAST_FINDS: u64 = 200_000;
 /// How often each axis with each test must be accepted.
 const LEAST_STEPS: u64 = 1_000;
 
@@ -78,8 +80,19 @@ impl Tally {
                 at_least(note.what, *times, note.least)?;
             }
         }
-        if self.part == Part::Step {
-            self.demand_each_axis_and_test()?;
+        match self.part {
+            Part::Check => self.demand_finds(),
+            Part::Step => self.demand_each_axis_and_test(),
+            _ => Ok(()),
+        }
+    }
+
+    /// Checks have most of the refusals that a find has, so it is counted by itself too.
+    fn demand_finds(&self) -> Result<(), String> {
+        let answers = &self.answers[Entry::Find as usize];
+        at_least("find", answers.iter().sum(), LEAST_FINDS)?;
+        for number in [1, 2, 9] {
+            at_least(&format!("refusal {number} of find"), answers[number], LEAST_REFUSALS)?;
         }
         Ok(())
     }

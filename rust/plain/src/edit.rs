@@ -2,6 +2,7 @@
 
 use crate::answer::Answer;
 use crate::check::{first_unsound, first_unsound_with_parents, parent, Up};
+use crate::find::row_of_key;
 use crate::keys::{by_rows, Keys};
 use crate::table::{Rows, Table};
 use crate::{LEVELS, MOST_ROWS};
@@ -35,16 +36,7 @@ pub fn delete(table: &mut TableMut<'_>, key_wanted: usize) -> Answer {
 
 /// Gives the row with the key another name: refusals 1, 2, 9 and 16.
 pub fn rename(table: &mut TableMut<'_>, key_wanted: usize, new_name: usize) -> Answer {
-    let found = crate::find(&table.as_lent(), key_wanted);
-    if found.refusal != 0 {
-        return found;
-    }
-    let row = found.first;
-    if !matches!(table.kind[row], 1 | 4) || new_name == 0 {
-        return Answer::refused(16, row);
-    }
-    table.name[row] = new_name;
-    Answer { first: table.count, second: table.count, ..Answer::default() }
+    by_rows!(table.count, rename_by(table, key_wanted, new_name))
 }
 
 fn insert_by<const SLOTS: usize>(
@@ -61,7 +53,7 @@ fn insert_by<const SLOTS: usize>(
 
 fn delete_by<const SLOTS: usize>(table: &mut TableMut<'_>, key_wanted: usize) -> Answer {
     let (mut keys, mut up) = (Keys::<SLOTS>::new(), [0; MOST_ROWS]);
-    match row_of_key(&table.as_lent(), key_wanted, &mut keys, &mut up) {
+    match row_with_parents(&table.as_lent(), key_wanted, &mut keys, &mut up) {
         // The only root: with all that is below it, it is the whole table.
         Ok((rows, row)) if rows.size[row] + 1 == rows.count() => Answer::refused(15, 0),
         Ok((_, row)) => table.close_gap(row, &up),
@@ -69,20 +61,33 @@ fn delete_by<const SLOTS: usize>(table: &mut TableMut<'_>, key_wanted: usize) ->
     }
 }
 
-/// The rows in use and the row with the key; all keys and parents have been entered.
+fn rename_by<const SLOTS: usize>(
+    table: &mut TableMut<'_>,
+    key_wanted: usize,
+    new_name: usize,
+) -> Answer {
+    match row_of_key(&table.as_lent(), key_wanted, &mut Keys::<SLOTS>::new(), first_unsound) {
+        Ok((rows, row)) if !matches!(rows.kind[row], 1 | 4) || new_name == 0 => {
+            Answer::refused(16, row)
+        }
+        Ok((_, row)) => {
+            table.name[row] = new_name;
+            Answer { first: table.count, second: table.count, ..Answer::default() }
+        }
+        Err(refused) => refused,
+    }
+}
+
+/// The rows in use and the row with the key. The parents of all rows are noted on the way: a search
+/// for each ancestor afterwards takes longer.
 #[inline(always)]
-fn row_of_key<'a, const SLOTS: usize>(
+fn row_with_parents<'a, const SLOTS: usize>(
     table: &Table<'a>,
     key_wanted: usize,
     keys: &mut Keys<SLOTS>,
     up: &mut Up,
 ) -> Result<(Rows<'a>, usize), Answer> {
-    let rows = table.rows_in_use().ok_or(Answer::refused(1, 0))?;
-    if let Some(row) = first_unsound_with_parents(&rows, keys, up) {
-        return Err(Answer::refused(2, row));
-    }
-    let row = keys.row_of(rows.key, key_wanted).ok_or(Answer::refused(9, 0))?;
-    Ok((rows, row))
+    row_of_key(table, key_wanted, keys, |rows, keys| first_unsound_with_parents(rows, keys, up))
 }
 
 /// The parent's row and the rows of the piece, where the insertion is accepted.
@@ -94,7 +99,7 @@ fn gap_for<'p, const SLOTS: usize>(
     keys: &mut Keys<SLOTS>,
     up: &mut Up,
 ) -> Result<(usize, Rows<'p>), Answer> {
-    let (rows, parent) = row_of_key(table, parent_key, keys, up)?;
+    let (rows, parent) = row_with_parents(table, parent_key, keys, up)?;
     let piece = sound_piece(piece).ok_or(Answer::refused(10, 0))?;
     if rows.kind[parent] > 1 {
         return Err(Answer::refused(11, parent));

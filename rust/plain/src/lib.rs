@@ -12,6 +12,7 @@ mod carry;
 mod check;
 mod edit;
 mod filter;
+mod find;
 mod keys;
 mod lanes;
 mod pairs;
@@ -21,9 +22,10 @@ mod step;
 mod table;
 mod trees;
 
-pub use answer::Answer;
+pub use answer::{Answer, Found};
 pub use carry::carry;
 pub use edit::{delete, insert, rename, TableMut};
+pub use find::find;
 pub use pairs::Pairs;
 pub use sink::Results;
 pub use step::{step, Question};
@@ -50,24 +52,5 @@ fn check_rows<const SLOTS: usize>(rows: &Rows<'_>) -> Answer {
     match check::first_unsound(rows, &mut keys) {
         None => Answer::default(),
         Some(row) => Answer::refused(2, row),
-    }
-}
-
-/// Finds the row of a key: refusals 1, 2 and 9.
-pub fn find(table: &Table<'_>, key_wanted: usize) -> Answer {
-    let Some(rows) = table.rows_in_use() else {
-        return Answer::refused(1, 0);
-    };
-    by_rows!(rows.count(), find_row(&rows, key_wanted))
-}
-
-fn find_row<const SLOTS: usize>(rows: &Rows<'_>, key_wanted: usize) -> Answer {
-    let mut keys = Keys::<SLOTS>::new();
-    if let Some(row) = check::first_unsound(rows, &mut keys) {
-        return Answer::refused(2, row);
-    }
-    match keys.row_of(rows.key, key_wanted) {
-        Some(row) => Answer { first: row, ..Answer::default() },
-        None => Answer::refused(9, 0),
     }
 }

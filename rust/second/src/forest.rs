@@ -30,10 +30,12 @@ pub(crate) struct Line {
     pub name: usize,
 }
 
-/// The parent of a row of a sound table: the nearest earlier row whose level is one less. A root
-/// has none.
-fn parent_row(rows: &Rows<'_>, row: usize) -> Option<usize> {
-    (0..row).rev().find(|&earlier| rows.level[earlier] + 1 == rows.level[row])
+/// The parent of a row of a sound table: of all earlier rows whose level is one less, the nearest.
+/// Each earlier row is looked at, from row 0 on. A root has none.
+pub(crate) fn parent_row(rows: &Rows<'_>, row: usize) -> Option<usize> {
+    let one_less = rows.level[row].checked_sub(1)?;
+    let earlier = rows.level[..row].iter().enumerate();
+    earlier.filter(|(_, &level)| level == one_less).map(|(row, _)| row).max()
 }
 
 impl Forest {

@@ -1,6 +1,6 @@
 //! The small farm in the second program: the numbers that the rules state.
 
-use second::{carry, check, find, Answer, Pairs, Results, Table};
+use second::{carry, check, find, Answer, Found, Pairs, Results, Table};
 
 const KEY: [usize; 10] = [10, 20, 21, 22, 23, 24, 30, 31, 32, 40];
 const SIZE: [usize; 10] = [9, 4, 1, 0, 1, 0, 2, 1, 0, 0];
@@ -19,9 +19,35 @@ fn refused(refusal: usize, place: usize) -> Answer {
 #[test]
 fn the_farm_is_sound() {
     assert_eq!(check(&farm()), Answer::default());
-    let row_seven = Answer { first: 7, ..Answer::default() };
-    assert_eq!(find(&farm(), 31), row_seven);
-    assert_eq!(find(&farm(), 0), refused(9, 0));
+}
+
+#[test]
+fn each_key_is_found_with_its_level_and_its_parent() {
+    let parents = [-1, 0, 1, 2, 1, 4, 0, 6, 7, 0];
+    for (row, parent) in parents.into_iter().enumerate() {
+        let found = Found { row, level: LEVEL[row], parent, ..Found::default() };
+        assert_eq!(find(&farm(), KEY[row]), found);
+    }
+}
+
+#[test]
+fn a_find_is_refused_in_its_order() {
+    let refused = |refusal: usize, place: usize| Found { refusal, place, ..Found::default() };
+    for key_wanted in [0, 11, usize::MAX] {
+        assert_eq!(find(&farm(), key_wanted), refused(9, 0));
+    }
+    // Rows 4 and 7 are not sound, and no row has the key.
+    let mut name = NAME;
+    (name[4], name[7]) = (0, 0);
+    let damaged = Table { name: &name, ..farm() };
+    assert_eq!(find(&damaged, 0), refused(2, 4));
+    assert_eq!(find(&damaged, 20), refused(2, 4));
+    for count in [0, 11, 4_097, usize::MAX] {
+        assert_eq!(find(&Table { count, ..damaged }, 0), refused(1, 0));
+    }
+    // A row that is not in use is not found.
+    let alone = Table { size: &[0], count: 1, ..farm() };
+    assert_eq!(find(&alone, 20), refused(9, 0));
 }
 
 #[test]

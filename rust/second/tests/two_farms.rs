@@ -9,8 +9,8 @@
 //! | 13 | 63 | 0 | 3 | 1 | 4 |
 //! | 14 | 70 | 0 | 1 | 3 | 0 |
 
-use second::{carry, check, delete, insert, step};
-use second::{Answer, Pairs, Question, Results, Table, TableMut};
+use second::{carry, check, delete, find, insert, step};
+use second::{Answer, Found, Pairs, Question, Results, Table, TableMut};
 
 const KEY: [usize; 15] = [10, 20, 21, 22, 23, 24, 30, 31, 32, 40, 60, 61, 62, 63, 70];
 const SIZE: [usize; 15] = [9, 4, 1, 0, 1, 0, 2, 1, 0, 0, 4, 2, 1, 0, 0];
@@ -53,6 +53,20 @@ fn every_root_may_be_a_document_and_no_other_row() {
     let mut size = SIZE;
     size[0] = 8;
     assert_eq!(check(&Table { level: &level, size: &size, ..farms() }), Answer::default());
+}
+
+#[test]
+fn the_roots_of_both_farms_are_found_and_no_parent_leaves_its_farm() {
+    for (key, row, level, parent) in [
+        (10, 0, 0, -1),
+        (60, 10, 0, -1),
+        (40, 9, 1, 0),
+        (61, 11, 1, 10),
+        (63, 13, 3, 12),
+        (70, 14, 1, 10),
+    ] {
+        assert_eq!(find(&farms(), key), Found { row, level, parent, ..Found::default() });
+    }
 }
 
 #[test]

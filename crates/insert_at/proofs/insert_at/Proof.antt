@@ -1,22 +1,42 @@
 -- `insert_at::insert_at` meets its contract: the checks, then the piece in its place. Assumes nothing.
-use mathlib.Core.Path.{sym, _∙_}
+use mathlib.Core.Path.{_≡_, sym, ap, _∙_}
+use Prim.Native.Nat.{ℕ}
 use Rattle.tree.specs.Table.{Table, tableOf}
+use Rattle.tree.specs.Refusal.{insertCheck}
+use Rattle.tree.specs.Outcome.{rowThere}
 use Rattle.edit_at.proofs.OutcomeLaws.{leaves, own-refused}
 use borrow.Author.Needs.{needs}
 use Rattle.insert_at.proofs.insert_at.Statement.{statement}
 use Rattle.insert_at.proofs.insert_at.Tie as tie
 
--- the table that was lent
+-- the table that was lent, and the piece
 abbrev lent : tie.Start → Table
 lent s =
     tableOf (s .args .key .now) (s .args .size .now) (s .args .level .now) (s .args .kind .now) (s .args .name .now)
     (s .args .count)
 
--- the entry, from the check
-abbrev at-check : tie.After-check-piece → tie.Start
-at-check c =
-    c .before .before .before .before .before .before .before .before
-    .before .before .before .before .before .before .before .before
+abbrev piece : tie.Start → Table
+piece s =
+    tableOf (s .args .p-key .now) (s .args .p-size .now) (s .args .p-level .now) (s .args .p-kind .now)
+    (s .args .p-name .now) (s .args .p-count)
+
+-- the row, from the check, and the entry, from the row
+abbrev at-check : tie.After-check-piece → tie.After-row-there
+at-check c = c .before .before .before .before .before .before
+
+abbrev at-row : tie.After-row-there → tie.Start
+at-row c = c .before .before .before .before .before .before .before .before .before .before .before
+
+-- the check is that of the row found
+checked : (c : tie.After-check-piece) → c .check-piece .result
+    ≡ insertCheck (lent (at-row (at-check c))) (rowThere (at-row (at-check c) .args .found))
+    (piece (at-row (at-check c)))
+checked c =
+    let s = at-row (at-check c) in
+    c .check-piece .ensures ∙ ap (λ (r : ℕ). insertCheck (lent s) r (piece s)) (at-check c .row-there .ensures)
+
+row-there-requires : tie.Need-row-there-requires
+row-there-requires c κs = search needs
 
 check-piece-requires : tie.Need-check-piece-requires
 check-piece-requires c κs = search needs
@@ -41,8 +61,9 @@ same-length-5 c = search needs
 
 returns : tie.Need-returns
 returns c =
-    let t = lent (at-check (c .before .before .before)) in
-    leaves t (own-refused _ _ t (sym (c .before .before .before .check-piece .ensures) ∙ c .before .checked .given .1))
+    let check = c .before .before .before in
+    let t = lent (at-row (at-check check)) in
+    leaves t (own-refused _ _ t (sym (checked check) ∙ c .before .checked .given .1))
 
 enum-told : tie.Need-enum-told
 enum-told c = search needs
@@ -51,7 +72,7 @@ open-rows-requires : tie.Need-open-rows-requires
 open-rows-requires c κs =
     let told = c .before .before .before .before .before in
     let check = told .before .before in
-    record { known = at-check check .pre; fits = sym (check .check-piece .ensures) ∙ told .enum-told .given .1 }
+    record { found = at-row (at-check check) .pre; fits = sym (checked check) ∙ told .enum-told .given .1 }
 
 same-length-6 : tie.Need-same-length-6
 same-length-6 c = search needs
@@ -75,6 +96,7 @@ pub insert-at-spec : {M : Type 1} → statement M
 insert-at-spec =
     tie.close
     (tie.spec
+    row-there-requires
     check-piece-requires
     enum-known-checked
     same-length

@@ -1,7 +1,8 @@
--- `planting::open_rows` meets its contract: the sizes up to the row rise, then a gap opens in each column.
+-- `planting::open_rows` meets its contract: the sizes from the row up rise, then a gap opens in each column.
 -- Assumes nothing.
 use native.Mathlib.Omega.{arith}
 use Rattle.tree.specs.Table.{Table, tableOf}
+use Rattle.edit_at.proofs.FoundLaws.{found-stands}
 use Rattle.planting.proofs.InsertLaws.{Room, room, insert-made}
 use borrow.Author.Needs.{needs}
 use Rattle.planting.proofs.open_rows.Statement.{statement}
@@ -18,30 +19,35 @@ piece s =
     tableOf (s .args .p-key .now) (s .args .p-size .now) (s .args .p-level .now) (s .args .p-kind .now)
     (s .args .p-name .now) (s .args .p-count)
 
+-- the entry, from the row
+abbrev at-row : tie.After-row-there → tie.Start
+at-row c = c .before .before .before .before .before .before .before .before .before .before .before
+
 -- what the piece that fits tells of the columns
-fits : (s : tie.Start) → Room (lent s) (s .args .row) (piece s)
-fits s = room (lent s) (s .args .row) (piece s) (s .pre)
+fits : (c : tie.After-row-there) → Room (lent (at-row c)) (c .row-there .result) (piece (at-row c))
+fits c = room (lent (at-row c)) (at-row c .args .found) (piece (at-row c)) (at-row c .pre) _ (c .row-there .ensures)
 
 -- the same, from each call on the way
-abbrev at-raise : tie.After-raise → tie.Start
-at-raise c =
-    c .before .before .before .before .before .before .before
-    .before .before .before .before .before .before .before
+abbrev at-raise : tie.After-raise → tie.After-row-there
+at-raise c = c .before .before .before .before .before
 
-abbrev at-key : tie.After-open-column → tie.Start
+abbrev at-key : tie.After-open-column → tie.After-row-there
 at-key c = at-raise (c .before .before .before .before)
 
-abbrev at-size : tie.After-open-column2 → tie.Start
+abbrev at-size : tie.After-open-column2 → tie.After-row-there
 at-size c = at-key (c .before .before .before .before)
 
-abbrev at-level : tie.After-open-column-raised → tie.Start
+abbrev at-level : tie.After-open-column-raised → tie.After-row-there
 at-level c = at-size (c .before .before .before .before)
 
-abbrev at-kind : tie.After-open-column3 → tie.Start
+abbrev at-kind : tie.After-open-column3 → tie.After-row-there
 at-kind c = at-level (c .before .before .before .before)
 
-abbrev at-name : tie.After-open-column4 → tie.Start
+abbrev at-name : tie.After-open-column4 → tie.After-row-there
 at-name c = at-kind (c .before .before .before .before)
+
+row-there-requires : tie.Need-row-there-requires
+row-there-requires c κs = search needs
 
 add-after : tie.Need-add-after
 add-after c = search needs
@@ -54,7 +60,7 @@ slice-read-gap c = search needs
 
 add-gap : tie.Need-add-gap
 add-gap c =
-    let h = fits (c .before .before .before .before .before .before .before .before .before .before .before) in
+    let h = fits (c .before) in
     omega (arith, h .gap, h .few)
 
 mul-add : tie.Need-mul-add
@@ -65,13 +71,13 @@ slice-read-add c = search needs
 
 add-add : tie.Need-add-add
 add-add c =
-    let h = fits (c .before .before .before .before .before .before .before .before .before .before .before .before) in
+    let h = fits (c .before .before) in
     omega (arith, h .shallow)
 
 raise-requires : tie.Need-raise-requires
 raise-requires c κs =
-    fits (c .before .before .before .before .before .before .before .before .before .before .before .before .before)
-    .raises
+    let row = c .before .before .before .before in
+    (found-stands (at-row row .pre .found), fits row .of-few)
 
 open-column-requires : tie.Need-open-column-requires
 open-column-requires c κs =
@@ -124,15 +130,17 @@ returns c =
     let size = level .before .before .before .before in
     let key = size .before .before .before .before in
     let high = key .before .before .before .before in
-    let s = at-raise high in
-    insert-made (lent s) (s .args .row) (piece s) (s .pre) (high .raise .ensures) (key .open-column .ensures)
-    (size .open-column2 .ensures) (level .open-column-raised .ensures) (kind .open-column3 .ensures)
-    (name .open-column4 .ensures) (c .after-insertion .ensures)
+    let row = at-raise high in
+    let s = at-row row in
+    insert-made (lent s) (s .args .found) (piece s) (s .pre) _ (row .row-there .ensures) (high .raise .ensures)
+    (key .open-column .ensures) (size .open-column2 .ensures) (level .open-column-raised .ensures)
+    (kind .open-column3 .ensures) (name .open-column4 .ensures) (c .after-insertion .ensures)
 
 pub open-rows-spec : {M : Type 1} → statement M
 open-rows-spec =
     tie.close
     (tie.spec
+    row-there-requires
     add-after
     mul-gap
     slice-read-gap

@@ -1,80 +1,93 @@
--- `sizes::raise` meets its contract. The sizes of the rows below i are changed, the others stand as they stood.
--- Assumes nothing.
-use Prim.Native.Nat.{_+_, _-_, _≤_}
+-- `sizes::raise` meets its contract: a root has no row above it, any other the rows from its parent up. Assumes
+-- nothing.
+use mathlib.Core.Path.{_≡_, subst, _∙_}
+use Prim.Native.Nat.{ℕ, _+_}
 use native.Mathlib.Omega.{arith}
-use Rattle.sizes.specs.Enclosing.{reaches, raised}
-use Rattle.shift.proofs.MoverLaws.{Put, put-start}
-use Rattle.sizes.proofs.SizePassLaws.{pass-read, raise-turn, raise-end}
+use Rattle.tree.specs.Tree.{ancestor}
+use Rattle.tree.specs.Edit.{changed}
+use Rattle.tree.specs.declared.Child.{Child}
+use Rattle.tree.specs.declared.Located.the-variants.{Root, Under}
+use Rattle.sizes.specs.Upward.{Stands}
+use Rattle.sizes.proofs.StandsLaws.{row-asks, root-raised}
+use Rattle.sizes.proofs.StandsLaws.{child-resizable, child-resized, child-asks, child-raised}
 use borrow.Author.Needs.{needs}
 use Rattle.sizes.proofs.raise.Statement.{statement}
 use Rattle.sizes.proofs.raise.Tie as tie
 
-abbrev Inv-loop : tie.InvT-loop
-Inv-loop size₀ row by i₀ size i = Put (raised size₀ row by) size₀ size i × (i ≤ row + 1)
+-- what was found, by its case
+root : (s : tie.Start) (r : ℕ) → s .args .found ≡ Root r
+    → Stands (s .args .size .now) (s .args .level .now) (s .args .count) (Root r)
+root s r e = subst (Stands (s .args .size .now) (s .args .level .now) (s .args .count)) e (s .pre .0)
 
-abbrev μ-loop : tie.MeasureT-loop
-μ-loop size₀ row by i₀ size i = row + 1 - i
+child : (s : tie.Start) (c : Child) → s .args .found ≡ Under c
+    → Stands (s .args .size .now) (s .args .level .now) (s .args .count) (Under c)
+child s c e = subst (Stands (s .args .size .now) (s .args .level .now) (s .args .count)) e (s .pre .0)
 
-loop-holds : tie.Need-loop-holds Inv-loop μ-loop
-loop-holds c = (put-start _ _, search needs)
+enum-known-found : tie.Need-enum-known-found
+enum-known-found c = search needs
 
-mul-more : tie.Need-mul-more Inv-loop μ-loop
-mul-more c = search needs
+enlarge-requires : tie.Need-enlarge-requires
+enlarge-requires c κs =
+    let s = c .before .before .before .before .before .before in
+    let (inside, small) = row-asks (root s _ (c .before .before .found .given .1)) in
+    (inside, small, s .pre .1)
 
-slice-read-more : tie.Need-slice-read-more Inv-loop μ-loop
-slice-read-more c = search needs
+enum-known-found-2 : tie.Need-enum-known-found-2
+enum-known-found-2 c = search needs
 
-more-requires : tie.Need-more-requires Inv-loop μ-loop
-more-requires c κs =
-    let s = c .before .before .before .before in
-    let l = c .before .before .loop in (
-      rw (pass-read (reaches (s .args .size .now) (s .args .row)) (λ z. z + s .args .by) (l .inv .0) (omega arith))
-          (s .pre .small (l .i) (omega arith)),
-      search needs,
-    )
+resize-up-requires : tie.Need-resize-up-requires
+resize-up-requires c κs =
+    let s = c .before .before .before .before .before .before in
+    child-resizable _ (child s _ (c .before .before .found2 .given .1)) (s .args .by) 0 (s .pre .1) (λ i e. omega arith)
 
-mul-size : tie.Need-mul-size Inv-loop μ-loop
-mul-size c = search needs
+-- the sizes above a row under a parent, from its parent up
+above : (c : tie.After-resize-up) → c .resize-up .last .0
+    ≡ changed (λ i. ancestor (c .before .before .before .before .before .before .before .args .level .now) i
+    (c .before .before .before .found2 .given .0 .0 .row))
+    (λ z. z + c .before .before .before .before .before .before .before .args .by)
+    (c .before .before .before .before .before .before .before .args .size .now)
+above c =
+    let s = c .before .before .before .before .before .before .before in
+    c .resize-up .ensures
+    ∙ child-resized _ (child s _ (c .before .before .before .found2 .given .1)) (s .args .by) 0 _ (λ z. omega arith)
 
-slice-write-size : tie.Need-slice-write-size Inv-loop μ-loop
-slice-write-size c = search needs
+enlarge-requires-2 : tie.Need-enlarge-requires-2
+enlarge-requires-2 c κs =
+    let r = c .before .before .before in
+    let s = r .before .before .before .before .before .before .before in
+    let (inside, small) =
+    child-asks _ (child s _ (r .before .before .before .found2 .given .1)) (s .args .by) (above r) in
+    (inside, small, s .pre .1)
 
-add-i : tie.Need-add-i Inv-loop μ-loop
-add-i c = search needs
+same-length : tie.Need-same-length
+same-length c = search needs
 
-loop-less : tie.Need-loop-less Inv-loop μ-loop
-loop-less c = search needs
-
-loop-again : tie.Need-loop-again Inv-loop μ-loop
-loop-again c =
-    let s = c .before .before .before .before .before in (
-      raise-turn (s .args .size .now) (s .args .row) (s .args .by) (c .before .before .before .loop .inv .0)
-          (omega arith) (omega arith) (c .more .ensures),
-      search needs,
-    )
-
-same-length : tie.Need-same-length Inv-loop μ-loop
-same-length c = c .before .loop .inv .0 .long
-
-returns : tie.Need-returns Inv-loop μ-loop
+returns : tie.Need-returns
 returns c =
-    let s = c .before .before .before in
-    raise-end (s .args .size .now) (s .args .row) (s .args .by) (c .before .loop .inv .0) (omega arith) (omega arith)
+    let s = c .before .before .before .before .before .before .before .before .before in
+    let e = c .before .before .before .before .before .found .given .1 in
+    rw e (c .before .before .enlarge .ensures ∙ root-raised _ (s .args .by) (root s _ e))
+
+same-length-2 : tie.Need-same-length-2
+same-length-2 c = search needs
+
+returns-2 : tie.Need-returns-2
+returns-2 c =
+    let r = c .before .before .before .before .before .before in
+    let s = r .before .before .before .before .before .before .before in
+    let e = r .before .before .before .found2 .given .1 in
+    rw e (c .before .before .enlarge2 .ensures ∙ child-raised _ (child s _ e) (s .args .by) (above r))
 
 pub raise-spec : {M : Type 1} → statement M
 raise-spec =
     tie.close
     (tie.spec
-    Inv-loop
-    μ-loop
-    loop-holds
-    mul-more
-    slice-read-more
-    more-requires
-    mul-size
-    slice-write-size
-    add-i
-    loop-less
-    loop-again
+    enum-known-found
+    enlarge-requires
+    enum-known-found-2
+    resize-up-requires
+    enlarge-requires-2
     same-length
-    returns)
+    returns
+    same-length-2
+    returns-2)

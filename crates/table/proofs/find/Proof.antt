@@ -1,4 +1,5 @@
--- `table::find` meets its contract: the check's refusals first, then the row of the key, or 9. Assumes nothing.
+-- `table::find` meets its contract: the check's refusals first, then where the row of the key stands, or 9. Assumes
+-- nothing.
 use mathlib.Core.Path.{sym, _∙_}
 use Rattle.tree.specs.Outcome.{checkOutcome, findOutcome, foundIf}
 use Rattle.tree.proofs.SoundLaws.{table-passes}
@@ -18,7 +19,7 @@ enum-told c = search needs
 locate-requires : tie.Need-locate-requires
 unfolding checkOutcome
 locate-requires c κs =
-    table-passes _ .0 (sym (c .before .before .check .ensures) ∙ c .enum-told .given .1) .in-use .in-key
+    table-passes _ .0 (sym (c .before .before .check .ensures) ∙ c .enum-told .given .1)
 
 returns : tie.Need-returns
 unfolding findOutcome foundIf checkOutcome

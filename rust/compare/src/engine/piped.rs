@@ -68,8 +68,12 @@ impl Pipe {
         for column in case.lent_mut() {
             self.get(column)?;
         }
-        let [refusal, place, first, second, moved] = numbers;
-        Ok(Answer { refusal, place, first, second, moved: moved as i64 })
+        let [refusal, place, first, second, signed] = numbers;
+        let (refused, signed) = (Answer::refused(refusal, place), signed as i64);
+        Ok(match case.call {
+            Call::Find { .. } => Answer { row: first, level: second, parent: signed, ..refused },
+            _ => Answer { first, second, moved: signed, ..refused },
+        })
     }
 
     fn put(&mut self, numbers: &[usize]) -> io::Result<()> {

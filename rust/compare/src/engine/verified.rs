@@ -15,9 +15,11 @@ impl Engine for Library {
     fn answer(&self, case: &mut Case) -> Answer {
         let Case { table, count, call } = case;
         let count = *count;
-        same_numbers!(match call {
-            Call::Check => boundary::check(lend!(reach, table, count)),
-            Call::Find { key_wanted } => boundary::find(lend!(reach, table, count), *key_wanted),
+        match call {
+            Call::Check => boundary::check(lend!(reach, table, count)).into(),
+            Call::Find { key_wanted } => {
+                boundary::find(lend!(reach, table, count), *key_wanted).into()
+            }
             Call::Step(step) => boundary::step(
                 lend!(reach, table, count),
                 lend_pairs!(reach, step.lists),
@@ -25,23 +27,30 @@ impl Engine for Library {
                 step.test,
                 step.test_name,
                 lend_results!(reach, step.lists),
-            ),
+            )
+            .into(),
             Call::Insert(insert) => boundary::insert(
                 &mut lend_mut!(reach, table, count),
                 insert.parent_key,
                 lend!(reach, insert.piece, insert.piece_count),
-            ),
-            Call::Delete { key_wanted } =>
-                boundary::delete(&mut lend_mut!(reach, table, count), *key_wanted),
-            Call::Rename { key_wanted, new_name } =>
-                boundary::rename(&mut lend_mut!(reach, table, count), *key_wanted, *new_name),
+            )
+            .into(),
+            Call::Delete { key_wanted } => {
+                boundary::delete(&mut lend_mut!(reach, table, count), *key_wanted).into()
+            }
+            Call::Rename { key_wanted, new_name } => {
+                boundary::rename(&mut lend_mut!(reach, table, count), *key_wanted, *new_name).into()
+            }
             Call::Carry(carry) => boundary::carry(
                 lend_pairs!(reach, carry.lists),
                 count,
                 carry.first,
                 carry.moved,
                 lend_results!(reach, carry.lists),
-            ),
-        })
+            )
+            .into(),
+        }
     }
 }
+
+same_numbers!(reach::boundary);

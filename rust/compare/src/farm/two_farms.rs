@@ -139,9 +139,16 @@ fn unchanged(
     judge.pose_stated(name, case.clone(), answer, case)
 }
 
-/// A root may be of any kind, and only a root may be a document.
+/// A root may be of any kind, and only a root may be a document. Both roots are found without a
+/// parent, and no parent stands in another farm.
 fn checks(judge: &mut Judge<'_>) -> Result<(), Difference> {
     unchanged(judge, "two farms are sound", on_farms(Call::Check), Answer::default())?;
+    for (key_wanted, row, level, parent) in
+        [(10, 0, 0, -1), (60, 10, 0, -1), (40, 9, 1, 0), (61, 11, 1, 10), (70, 14, 1, 10)]
+    {
+        let stated = Answer::found(row, level, parent);
+        unchanged(judge, "a key of two farms", on_farms(Call::Find { key_wanted }), stated)?;
+    }
     let mut below = on_farms(Call::Check);
     (below.table.kind[11], below.table.name[11]) = (0, 0);
     unchanged(judge, "a document below a root", below, Answer::refused(2, 11))?;

@@ -1,9 +1,7 @@
--- `edit_at::deletion::delete_at` meets its contract: the sizes before the row fall, and each column closes up. Assumes
--- nothing.
-use Prim.Native.Nat.{_+_, _≤_}
-use native.Mathlib.Omega.{arith}
-use Rattle.tree.specs.Table.{Table, tableOf, at}
-use Rattle.edit_at.proofs.DeleteLaws.{delete-refused, delete-made, rows-fit, rows-lowerable}
+-- `edit_at::deletion::delete_at` meets its contract: a root, or a row under a parent. Assumes nothing.
+use mathlib.Core.Path.{subst}
+use Rattle.tree.specs.Table.{Table, tableOf}
+use Rattle.table.specs.RowFound.{RowFound}
 use borrow.Author.Needs.{needs}
 use Rattle.edit_at.proofs.deletion.delete_at.Statement.{statement}
 use Rattle.edit_at.proofs.deletion.delete_at.Tie as tie
@@ -14,79 +12,23 @@ lent s =
     tableOf (s .args .key .now) (s .args .size .now) (s .args .level .now) (s .args .kind .now) (s .args .name .now)
     (s .args .count)
 
--- the entry, from each call on the way
-abbrev at-lower : tie.After-lower → tie.Start
-at-lower c = c .before .before .before .before .before .before .before .before .before
+enum-known-found : tie.Need-enum-known-found
+enum-known-found c = search needs
 
-abbrev at-close : tie.After-close-column → tie.Start
-at-close c = at-lower (c .before .before .before .before)
+delete-root-requires : tie.Need-delete-root-requires
+delete-root-requires c κs =
+    let told = c .before .before .before .before .before .before in
+    let s = told .before .before .before .before .before .before .before in
+    subst (RowFound (lent s)) (told .found .given .1) (s .pre)
 
-abbrev at-close2 : tie.After-close-column2 → tie.Start
-at-close2 c = at-close (c .before .before .before .before)
+enum-known-found-2 : tie.Need-enum-known-found-2
+enum-known-found-2 c = search needs
 
-abbrev at-close3 : tie.After-close-column3 → tie.Start
-at-close3 c = at-close2 (c .before .before .before .before)
-
-abbrev at-close4 : tie.After-close-column4 → tie.Start
-at-close4 c = at-close3 (c .before .before .before .before)
-
-abbrev at-close5 : tie.After-close-column5 → tie.Start
-at-close5 c = at-close4 (c .before .before .before .before)
-
--- the rows that go are in use
-fits : (s : tie.Start) → s .args .row + (at (s .args .size .now) (s .args .row) + 1) ≤ s .args .count
-fits s = rows-fit (lent s) (s .args .row) (s .pre)
-
-mul-by : tie.Need-mul-by
-mul-by c = search needs
-
-slice-read-by : tie.Need-slice-read-by
-slice-read-by c = search needs
-
-add-by : tie.Need-add-by
-add-by c =
-    let s = c .before .before .before .before .before .before in
-    omega (arith, fits s, s .pre .sound .in-use)
-
-returns : tie.Need-returns
-returns c =
-    let s = c .before .before .before .before .before .before .before in
-    delete-refused (lent s) (s .args .row) (s .pre) (c .if1 .taken)
-
-add-gap : tie.Need-add-gap
-add-gap c =
-    let s = c .before .before .before .before .before .before .before in
-    omega (arith, fits s, s .pre .sound .in-use)
-
-lower-requires : tie.Need-lower-requires
-lower-requires c κs =
-    let s = c .before .before .before .before .before .before .before .before in
-    rows-lowerable (lent s) (s .args .row) (s .pre)
-
-close-column-requires : tie.Need-close-column-requires
-close-column-requires c κs = let s = at-lower (c .before .before .before) in (fits s, s .pre .sound .in-use .in-key)
-
-close-column-requires-2 : tie.Need-close-column-requires-2
-close-column-requires-2 c κs =
-    let s = at-close (c .before .before .before) in
-    (fits s, omega (arith, s .pre .sound .in-use .in-size))
-
-close-column-requires-3 : tie.Need-close-column-requires-3
-close-column-requires-3 c κs =
-    let s = at-close2 (c .before .before .before) in (fits s, s .pre .sound .in-use .in-level)
-
-close-column-requires-4 : tie.Need-close-column-requires-4
-close-column-requires-4 c κs =
-    let s = at-close3 (c .before .before .before) in (fits s, s .pre .sound .in-use .in-kind)
-
-close-column-requires-5 : tie.Need-close-column-requires-5
-close-column-requires-5 c κs =
-    let s = at-close4 (c .before .before .before) in (fits s, s .pre .sound .in-use .in-name)
-
-after-deletion-requires : tie.Need-after-deletion-requires
-after-deletion-requires c κs =
-    let s = at-close5 (c .before .before) in
-    omega (arith, fits s, s .pre .sound .in-use)
+delete-child-requires : tie.Need-delete-child-requires
+delete-child-requires c κs =
+    let told = c .before .before .before .before .before .before in
+    let s = told .before .before .before .before .before .before .before in
+    subst (RowFound (lent s)) (told .found2 .given .1) (s .pre)
 
 same-length : tie.Need-same-length
 same-length c = search needs
@@ -103,38 +45,48 @@ same-length-4 c = search needs
 same-length-5 : tie.Need-same-length-5
 same-length-5 c = search needs
 
+returns : tie.Need-returns
+returns c =
+    let root = c .before .before .before .before .before .before .before .before .before .before in
+    rw (root .before .before .before .before .before .before .before .found .given .1) (root .delete-root .ensures)
+
+same-length-6 : tie.Need-same-length-6
+same-length-6 c = search needs
+
+same-length-7 : tie.Need-same-length-7
+same-length-7 c = search needs
+
+same-length-8 : tie.Need-same-length-8
+same-length-8 c = search needs
+
+same-length-9 : tie.Need-same-length-9
+same-length-9 c = search needs
+
+same-length-10 : tie.Need-same-length-10
+same-length-10 c = search needs
+
 returns-2 : tie.Need-returns-2
 returns-2 c =
-    let name = c .before .before .before in
-    let kind = name .before .before .before .before in
-    let level = kind .before .before .before .before in
-    let size = level .before .before .before .before in
-    let key = size .before .before .before .before in
-    let low = key .before .before .before .before in
-    let s = at-lower low in
-    delete-made (lent s) (s .args .row) (s .pre) (low .before .before .if1 .left) (low .lower .ensures)
-    (key .close-column .ensures) (size .close-column2 .ensures) (level .close-column3 .ensures)
-    (kind .close-column4 .ensures) (name .close-column5 .ensures) (c .after-deletion .ensures)
+    let child = c .before .before .before .before .before .before .before .before .before .before in
+    rw (child .before .before .before .before .before .before .before .found2 .given .1) (child .delete-child .ensures)
 
 pub delete-at-spec : {M : Type 1} → statement M
 delete-at-spec =
     tie.close
     (tie.spec
-    mul-by
-    slice-read-by
-    add-by
-    returns
-    add-gap
-    lower-requires
-    close-column-requires
-    close-column-requires-2
-    close-column-requires-3
-    close-column-requires-4
-    close-column-requires-5
-    after-deletion-requires
+    enum-known-found
+    delete-root-requires
+    enum-known-found-2
+    delete-child-requires
     same-length
     same-length-2
     same-length-3
     same-length-4
     same-length-5
+    returns
+    same-length-6
+    same-length-7
+    same-length-8
+    same-length-9
+    same-length-10
     returns-2)

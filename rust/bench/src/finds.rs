@@ -1,0 +1,44 @@
+//! Finding a key: the row, its level and its parent's row.
+
+use crate::race::{Race, Times};
+use crate::report::Group;
+use crate::tables::{deep, farms, flat, plant, wide};
+use lent::Columns;
+
+/// At 4,096 rows a find takes at most so many times what plain Rust takes.
+const BAR: f64 = 1.2;
+
+const ROWS: usize = 4_096;
+
+pub fn run(race: &Race) {
+    let mut group = Group::new("find, microseconds a call");
+    for rows in [64, 512] {
+        for (name, table) in [("flat", flat(rows)), ("63 deep", deep(rows))] {
+            let times = time(race, &table, table.key[rows - 1]);
+            group.line(&format!("{rows} rows, {name}, last row"), times);
+        }
+    }
+    // The parent of the last row stands 4,095 rows before it, 20 rows, one row, 65 rows; a root has
+    // none.
+    let tables = [
+        ("flat", flat(ROWS)),
+        ("plant", plant(ROWS)),
+        ("63 deep", deep(ROWS)),
+        ("63 deep and wide", wide(ROWS)),
+        ("all roots", farms(ROWS, 1)),
+    ];
+    for (name, table) in tables {
+        let [first, middle, last] = [0, ROWS / 2, ROWS - 1].map(|row| table.key[row]);
+        for (place, key_wanted) in
+            [("first row", first), ("middle", middle), ("last row", last), ("missing", 0)]
+        {
+            let times = time(race, &table, key_wanted);
+            group.line_with_bar(&format!("4,096 rows, {name}, {place}"), times, BAR);
+        }
+    }
+    group.mean();
+}
+
+fn time(race: &Race, table: &Columns, key_wanted: usize) -> Times {
+    race.time(|engine| engine.find(table, key_wanted))
+}
