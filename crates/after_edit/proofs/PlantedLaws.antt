@@ -1,8 +1,7 @@
 -- After an accepted insertion the rows of the piece stand from the first moved row on and hold what they held, their
 -- levels raised by the parent's level plus one: `piece-there`. Each is found there by its key: `piece-found`. The
 -- first of them is the last child of the named row, `last-child`: it is found under that row, `piece-under`, is on its
--- child axis, and no row follows it as a sibling, `last-on-axis`. Before them: the children of a row are those of the
--- next size rows that are one level deeper, `child-is`, `child-reached`. Assumes nothing.
+-- child axis, and no row follows it as a sibling, `last-on-axis`. Assumes nothing.
 use mathlib.Core.Path.{_≡_, refl, sym, ap, _∙_}
 use mathlib.Core.Bool.{Bool, true, false, cond, _||_}
 use mathlib.Core.List.{List, [], _∷_, map}
@@ -23,8 +22,9 @@ use Rattle.tree.specs.declared.Done.{Done}
 use Rattle.tree.specs.declared.Edited.the-variants.{Made}
 use Rattle.tree.specs.declared.Located.the-variants.{Under as Below}
 use Rattle.tree.specs.declared.Found.the-variants.{At}
-use Rattle.tree.proofs.TreeLaws.{Under, parent-is, parent-less, under-parent, ancestor-under}
-use Rattle.tree.proofs.SoundLaws.{sound-steps, sound-descendants, both, either-left}
+use Rattle.tree.proofs.TreeLaws.{parent-less}
+use Rattle.tree.proofs.SoundLaws.{sound-shape, both, either-left}
+use Rattle.tree.proofs.SubtreeLaws.{child-within, child-is}
 use Rattle.tree.proofs.AxisLaws.{false-of}
 use Rattle.tree.proofs.AcceptLaws.{only-root, insert-passes}
 use Rattle.tree.proofs.ColumnLaws.{opened-new, opened-stays, changed-at, length-changed}
@@ -42,37 +42,15 @@ map-at g [] i l = absurd (not-suc-le-zero l)
 map-at g (x ∷ xs) zero l = refl
 map-at g (x ∷ xs) (suc i) l = map-at g xs i (le-of-suc-le-suc l)
 
--- in a sound table, a row among the next size rows after row r that is one level deeper is its child
-pub child-is : (u : Table) → Sound u → (r c : ℕ) → r < c → c ≤ r + at (u .size) r → c < u .count
-    → at (u .level) r + 1 ≡ at (u .level) c → parent (u .level) c ≡ suc r
-child-is u s r c a b l e =
-    let under : Under (u .level) r c =
-    ancestor-under (u .level) (u .count) (sound-steps u s) r c l .0
-    (sound-descendants u s r c (omega arith) l .1 (a, b)) in
-    parent-is (u .level) c r (record {
-      earlier = a;
-      less = e;
-      closest = λ k x y q. omega (arith, under .deeper k x (omega arith));
-    })
-
--- and a child is among them
-pub child-reached : (u : Table) → Sound u → (r c : ℕ) → c < u .count → parent (u .level) c ≡ suc r
-    → (r < c) × (c ≤ r + at (u .size) r)
-child-reached u s r c l e =
-    let under : Under (u .level) r c = under-parent (u .level) (u .count) (sound-steps u s) c r l e in
-    let a : r < c = under .after in
-    sound-descendants u s r c (omega arith) l .0
-    (ancestor-under (u .level) (u .count) (sound-steps u s) r c l .1 under)
-
--- the last of these rows that are one level deeper is its last child
+-- in a sound table, the last of the rows under row r that are one level deeper is its last child
 last-under : (u : Table) → Sound u → (r c : ℕ) → r < c → c ≤ r + at (u .size) r → c < u .count
     → at (u .level) r + 1 ≡ at (u .level) c
     → ((w : ℕ) → c < w → w ≤ r + at (u .size) r → at (u .level) r + 1 ≡ at (u .level) w → ⊥)
     → LastChild (u .level) (u .count) r c
 last-under u s r c a b l e h = record {
   in-use = l;
-  child = child-is u s r c a b l e;
-  last = λ w x y q. h w x (child-reached u s r w y q .1) (parent-less (u .level) w r q);
+  child = child-is (sound-shape u s) r c (omega arith) a b (sym e);
+  last = λ w x y q. h w x (child-within (sound-shape u s) r w y q) (parent-less (u .level) w r q);
 }
 
 module _ (t : Table) (k : ℕ) (p : Table) (f : Fits (insertion k p) t) where

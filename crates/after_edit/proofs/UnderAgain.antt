@@ -21,9 +21,10 @@ use Rattle.tree.specs.declared.Done.{Done}
 use Rattle.tree.specs.declared.Edited.the-variants.{Made}
 use Rattle.tree.specs.declared.Located.the-variants.{Root, Under as Below}
 use Rattle.tree.specs.declared.Found.the-variants.{At}
-use Rattle.tree.proofs.TreeLaws.{Under, is-parent, parent-is, parent-less, under-trans, ancestor-under}
-use Rattle.tree.proofs.SoundLaws.{sound-shape, sound-steps, sound-descendants, shape-fits, either, either-left}
+use Rattle.tree.proofs.TreeLaws.{is-parent, parent-is, parent-below, parent-less}
+use Rattle.tree.proofs.SoundLaws.{sound-shape, sound-descendants, shape-fits, either, either-left}
 use Rattle.tree.proofs.SoundLaws.{either-right}
+use Rattle.tree.proofs.SubtreeLaws.{nested, child-within, child-is}
 use Rattle.tree.proofs.AcceptLaws.{neither, neither-of}
 use Rattle.tree.proofs.LevelLaws.{ancestor-step}
 use Rattle.tree.proofs.RowMoveLaws.{move-adds}
@@ -32,27 +33,6 @@ use Rattle.after_edit.specs.Act.{Act, insertion, deletion, renaming, out
 use Rattle.after_edit.specs.Survives.{movedTo, goes, resizes, Survives}
 use Rattle.after_edit.proofs.ActLaws.{Fits, accepted-has, after-sound}
 use Rattle.after_edit.proofs.FoundAgain.{edited-sound, plus-minus, after-gap, row-again}
-use Rattle.after_edit.proofs.PlantedLaws.{child-is, child-reached}
-
--- ── rows and sizes ──
--- the descendants of a row end no later than those of its ancestor
-ends-within : (t : Table) → Sound t → (c r : ℕ) → c < r → r ≤ c + at (t .size) c → r < t .count
-    → r + at (t .size) r ≤ c + at (t .size) c
-ends-within t s c r x y l =
-    let m : r + at (t .size) r < t .count = shape-fits (sound-shape t s) r l in
-    let under : (c w : ℕ) → c < w → w ≤ c + at (t .size) c → w < t .count → Under (t .level) c w =
-    λ c w x y l. ancestor-under (t .level) (t .count) (sound-steps t s) c w l .0
-    (sound-descendants t s c w (omega arith) l .1 (x, y)) in
-    let a : Under (t .level) c r = under c r x y l in
-    elim (ℕ-discrete (at (t .size) r) 0) [
-      | yes z ↦ omega arith
-      | no z ↦
-          let w : ℕ = r + at (t .size) r in
-          let b : Under (t .level) r w = under r w (omega arith) (omega arith) m in
-          sound-descendants t s c w (omega arith) m .0
-          (ancestor-under (t .level) (t .count) (sound-steps t s) c w m .1
-          (under-trans (t .level) (t .count) (sound-steps t s) c r w a b)) .1
-    ]
 
 -- ── what goes and what stays ──
 -- the parent of a row that stays stays
@@ -86,7 +66,7 @@ above-reaches : (t : Table) → Sound t → (r : ℕ) → r < t .count → (p : 
 unfolding gapOf
 above-reaches t s r m p l e =
     let (x, y) = sound-descendants t s p r l m .0 e in
-    let z = ends-within t s p r x y m in
+    let z = nested (sound-shape t s) p r l x y in
     (omega arith, omega arith)
 
 -- so it is with each of the three edits
@@ -107,7 +87,7 @@ after-shifts (insertion k b) t f =
         | yes q ↦ either-right (eqb p r) (sound-descendants t (f .sound) p r l m .1 (q, omega arith))
         | no q ↦ elim (ℕ-discrete p r) [
           | yes z ↦ either-left _ (eq-eqb p r z)
-          | no z ↦ absurd (omega (arith, ends-within t (f .sound) r p (omega arith) (omega arith) l))
+          | no z ↦ absurd (omega (arith, nested (sound-shape t (f .sound)) r p m (omega arith) (omega arith)))
         ]
       ];
     }
@@ -210,10 +190,11 @@ stays-under a t d e i p l q g =
     accepted-has (λ (d : Done) (u : Table). (w v : ℕ) → Survives a d t u i w → Survives a d t u p v
     → parent (u .level) w ≡ suc v) a t d e
     (λ f w v x y.
-    let (b, c) = child-reached t (f .sound) p i l q in
+    let b : p < i = parent-below (t .level) i p q in
+    let c : i ≤ p + at (t .size) p = child-within (sound-shape t (f .sound)) p i l q in
     let (m, n) = reached-again a t (doneOf a t) (tableAfter a t) (after-shifts a t f) i p w v l b c g
     (parent-stays a t (f .sound) i p l q g) x y in
-    child-is (tableAfter a t) (after-sound a t f) v w m n (x .in-use)
+    child-is (sound-shape (tableAfter a t) (after-sound a t f)) v w (y .in-use) m n
     (omega (arith, x .level, y .level, parent-less (t .level) i p q)))
 
 -- ── the key again ──

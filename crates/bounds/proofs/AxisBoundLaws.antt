@@ -22,7 +22,7 @@ use Rattle.tree.proofs.SoundLaws.{either, shape-descendants}
 use Rattle.tree.proofs.LevelLaws.{ancestors-count}
 use Rattle.scan.specs.OneRole.{Parents}
 use Rattle.bounds.specs.Bounds.{sumOf, onCount, spanOf, linkSpan, parentSpan, FewRows}
-use Rattle.marks.proofs.ChildWalkLaws.{child-within}
+use Rattle.tree.proofs.SubtreeLaws.{child-within}
 use Rattle.marks.proofs.SiblingLaws.{later-on, earlier-on}
 use Rattle.bounds.proofs.GatherLaws.{gather-within, gather-either}
 use Rattle.bounds.proofs.SumLaws.{sum-less, sum-same}

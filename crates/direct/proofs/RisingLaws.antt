@@ -26,7 +26,8 @@ use Rattle.scan.proofs.AppendedLaws.{appended-as, appended-none}
 use Rattle.scan.proofs.ScanLaws.{rows-cut, rows-skip, rows-same}
 use Rattle.scan.proofs.RangeLaws.{contexts-rise, any-hit, any-miss, Covered, cover-start, cover-done}
 use Rattle.scan.proofs.RangeLaws.{part-room, cover-part}
-use Rattle.marks.proofs.ChildWalkLaws.{in-parent, child-within, child-first}
+use Rattle.tree.proofs.SubtreeLaws.{child-within}
+use Rattle.marks.proofs.ChildWalkLaws.{in-parent, child-first}
 use Rattle.marks.proofs.SiblingLaws.{earlier-on, on-earlier}
 use Rattle.direct.specs.Children.{childThat, ChildrenIn}
 use Rattle.direct.specs.Earlier.{earlierFrom, EarlierIn, ParentsRise}

@@ -5,7 +5,7 @@
 use mathlib.Core.Path.{_≡_, refl, sym, ap, subst, _∙_}
 use mathlib.Core.Bool.{Bool, true, not, _&&_}
 use mathlib.Core.List.{List}
-use Prim.Native.Nat.{ℕ, suc, _+_, _-_, _<_, _≤_}
+use Prim.Native.Nat.{ℕ, _+_, _-_, _≤_}
 use native.Mathlib.Omega.{arith}
 use borrow.Author.Tests.{eq-eqb, ne-eqb}
 use lib.ListN.{length}
@@ -16,20 +16,20 @@ use Rattle.tree.specs.Edit.{changed, gapOf, deleted, deleteDone}
 use Rattle.tree.specs.Refusal.{deleteCheck}
 use Rattle.tree.specs.Outcome.{EditOutcome}
 use Rattle.tree.specs.declared.Child.{Child}
-use Rattle.tree.specs.declared.Located.the-variants.{Root, Under}
+use Rattle.tree.specs.declared.Located.the-variants.{Root, Under as Below}
 use Rattle.tree.specs.declared.Edited.{Edited}
 use Rattle.tree.specs.declared.Edited.the-variants.{Refused as NotMade}
 use Rattle.tree.specs.declared.Checked.the-variants.{Passed}
-use Rattle.tree.proofs.TreeLaws.{Under as Above, parent-less, ancestor-under}
+use Rattle.tree.proofs.TreeLaws.{Under, parent-less, ancestor-under}
 use Rattle.tree.proofs.SoundLaws.{sound-shape, sound-steps, given-not}
 use Rattle.tree.proofs.LastRootLaws.{only-root-is}
-use Rattle.tree.proofs.StandingLaws.{root-stands, under-stands}
+use Rattle.tree.proofs.LevelLaws.{root-alone}
+use Rattle.tree.proofs.StandingLaws.{root-stands, under-stands, root-level}
 use Rattle.tree.proofs.ColumnLaws.{changed-none, length-changed}
 use Rattle.tree.proofs.EditLaws.{gap-fits}
 use Rattle.tree.proofs.EditSizes.{ancestor-larger}
 use Rattle.tree.proofs.FindLaws.{given-refused}
 use Rattle.table.specs.RowFound.{RowKnown, RowFound}
-use Rattle.sizes.proofs.UpLaws.{above-root}
 use Rattle.edit_at.specs.EditLeaves.{EditLeaves}
 use Rattle.edit_at.specs.AtRow.{closedUp, deleteAt}
 use Rattle.edit_at.proofs.OutcomeLaws.{leaves, own-refused, own-passed}
@@ -93,11 +93,12 @@ module _ (t : Table) (r : ℕ) (f : RowFound t (Root r)) where
   -- no row stands above it
   pub root-sizes : (by : ℕ) → t .size ≡ changed (λ i. ancestor (t .level) i r) (λ s. s - by) (t .size)
   root-sizes by =
-      sym (changed-none _ _ (t .size) (above-root (sound-shape t (f .known .sound)) r (f .known .in-use)
-      (root-stands (t .level) r r (sym (f .there)) .1)))
+      let shape = sound-shape t (f .known .sound) in
+      let top = root-level shape r (f .known .in-use) .0 (root-stands (t .level) r r (sym (f .there)) .1) in
+      sym (changed-none _ _ (t .size) (root-alone shape r (f .known .in-use) top))
 
 -- ── a row under a parent ──
-module _ (t : Table) (c : Child) (f : RowFound t (Under c)) where
+module _ (t : Table) (c : Child) (f : RowFound t (Below c)) where
   -- it always goes
   pub child-passes : deleteCheck t (c .row) ≡ Passed
   unfolding deleteCheck
@@ -112,6 +113,6 @@ module _ (t : Table) (c : Child) (f : RowFound t (Under c)) where
   child-held i e =
       let s = f .known .sound in
       let l = f .known .in-use in
-      let u : Above (t .level) i (c .row) =
+      let u : Under (t .level) i (c .row) =
       ancestor-under (t .level) (t .count) (sound-steps t s) i (c .row) l .0 e in
       ancestor-larger t s (c .row) l i (omega (arith, u .after)) e

@@ -1,6 +1,5 @@
 -- Edits at a row that was found in a table that was checked: what the inner functions answer and what they ask for.
--- That the outcome of an edit by key is that of the edit at the key's row is in proofs/OutcomeLaws.antt. Assumes
--- nothing.
+-- That the outcome of an edit by key is that of the edit at the key's row is in edit's KeyOutcomeLaws. Assumes nothing.
 use Prim.Native.Nat.{ℕ, _+_, _-_}
 use mathlib.Core.Path.{_≡_}
 use Rattle.tree.specs.Table.{Table}

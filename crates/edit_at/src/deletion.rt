@@ -1,5 +1,5 @@
-// A deletion at a row that was found: RULES 01, "Finding and editing by key"; refusal 15. Whether the row is a root,
-// and its parent where it is none, is read from what was found.
+// A deletion at a row that was found: RULES 01, "Finding and editing by key"; refusal 15; RULES 02, E3. Whether the row
+// is a root, and if not, its parent, is read from what was found.
 ghost use Prim.Native.Nat.{_+_, _≤_};
 ghost use Rattle.tree.specs.Table.{tableOf};
 ghost use Rattle.tree.specs.Rules.{InUse};
@@ -14,7 +14,7 @@ use tree::Child;
 use tree::Edited;
 use tree::Located;
 
-// By rows go from a row on: later rows close up in all columns, and the freed rows are zero.
+// From a row on, `by` rows go: later rows close up in all columns, and the freed rows are zero.
 fn close_rows(
     key: &mut [usize],
     size: &mut [usize],
@@ -94,15 +94,15 @@ pub fn delete_at(
     kind: &mut [usize],
     name: &mut [usize],
     count: usize,
-    found: Located,
+    located: Located,
 ) -> Edited
-    requires { ⌜ RowFound (tableOf (now key) (now size) (now level) (now kind) (now name) count) found ⌝ }
+    requires { ⌜ RowFound (tableOf (now key) (now size) (now level) (now kind) (now name) count) located ⌝ }
     ensures { λ r. ⌜ EditLeaves (deleteAt
         (tableOf (now (key .entry)) (now (size .entry)) (now (level .entry)) (now (kind .entry))
-        (now (name .entry)) count) (rowThere found)) r
+        (now (name .entry)) count) (rowThere located)) r
         (now (key .exit)) (now (size .exit)) (now (level .exit)) (now (kind .exit)) (now (name .exit)) ⌝ }
 {
-    match found {
+    match located {
         Located::Root(row) => delete_root(key, size, level, kind, name, count, row),
         Located::Under(child) => delete_child(key, size, level, kind, name, count, child),
     }

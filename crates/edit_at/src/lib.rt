@@ -1,5 +1,5 @@
-// Deletion and rename at a known row of a sound table: RULES 01, "Finding and editing by key". A refusal leaves all
-// columns as they were.
+// Deletion and rename at a row that was found in a sound table: RULES 01, "Finding and editing by key". A refusal
+// leaves all columns as they were.
 
 pub mod renaming; // renaming.rt: a rename at a row
 pub mod deletion; // deletion.rt: a deletion at a row

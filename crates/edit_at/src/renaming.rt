@@ -28,16 +28,16 @@ pub fn rename_at(
     kind: &mut [usize],
     name: &mut [usize],
     count: usize,
-    found: Located,
+    located: Located,
     new_name: usize,
 ) -> Edited
-    requires { ⌜ RowFound (tableOf (now key) (now size) (now level) (now kind) (now name) count) found ⌝ }
+    requires { ⌜ RowFound (tableOf (now key) (now size) (now level) (now kind) (now name) count) located ⌝ }
     ensures { λ r. ⌜ EditLeaves (renameAt
         (tableOf (now (key .entry)) (now (size .entry)) (now (level .entry)) (now (kind .entry))
-        (now (name .entry)) count) (rowThere found) «new_name») r
+        (now (name .entry)) count) (rowThere located) «new_name») r
         (now (key .exit)) (now (size .exit)) (now (level .exit)) (now (kind .exit)) (now (name .exit)) ⌝ }
 {
-    let row = located::row_there(found);
+    let row = located::row_there(located);
     if unfit(kind[row], new_name) {
         return Edited::Refused(16, row);
     }

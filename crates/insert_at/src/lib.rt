@@ -17,7 +17,7 @@ pub fn insert_at(
     kind: &mut [usize],
     name: &mut [usize],
     count: usize,
-    found: Located,
+    located: Located,
     p_key: &[usize],
     p_size: &[usize],
     p_level: &[usize],
@@ -25,15 +25,15 @@ pub fn insert_at(
     p_name: &[usize],
     p_count: usize,
 ) -> Edited
-    requires { ⌜ RowFound (tableOf (now key) (now size) (now level) (now kind) (now name) count) found ⌝ }
+    requires { ⌜ RowFound (tableOf (now key) (now size) (now level) (now kind) (now name) count) located ⌝ }
     ensures { λ r. ⌜ EditLeaves (insertAt
         (tableOf (now (key .entry)) (now (size .entry)) (now (level .entry)) (now (kind .entry))
-        (now (name .entry)) count) (rowThere found)
+        (now (name .entry)) count) (rowThere located)
         (tableOf (now («p_key» .entry)) (now («p_size» .entry)) (now («p_level» .entry)) (now («p_kind» .entry))
         (now («p_name» .entry)) «p_count»)) r
         (now (key .exit)) (now (size .exit)) (now (level .exit)) (now (kind .exit)) (now (name .exit)) ⌝ }
 {
-    let row = located::row_there(found);
+    let row = located::row_there(located);
     let checked = piece::check_piece(
         key,
         size,
@@ -59,7 +59,7 @@ pub fn insert_at(
         kind,
         name,
         count,
-        found,
+        located,
         p_key,
         p_size,
         p_level,

@@ -12,8 +12,8 @@ ghost use Rattle.keys.specs.FirstKey.{firstKey};
 ghost use Rattle.keys.specs.Chain.{bucketOf, ChainRoom, Chained};
 use basics::one_of;
 
-// A row before which none has the key x, from which on it is worth a look at each of the first n rows: eight at a time,
-// in a third of the time.
+// A row before which none has the key x, and from which on each of the first n rows has to be looked at: eight rows are
+// passed over at a time.
 fn past_eights(key: &[usize], n: usize, x: usize) -> usize
     requires { ⌜ n ≤ length (now key) ⌝ }
     ensures { λ r. ⌜ (r ≤ n) × ((j : ℕ) → j < r → eqb (at (now (key .entry)) j) x ≡ false) ⌝ }

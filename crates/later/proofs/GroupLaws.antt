@@ -29,7 +29,8 @@ use Rattle.scan.proofs.RangeLaws.{contexts-rise, any-miss}
 use Rattle.scan.proofs.SideLaws.{nests}
 use Rattle.later.specs.Later.{LaterEnd}
 use Rattle.marks.proofs.MarkLaws.{any-append}
-use Rattle.marks.proofs.ChildWalkLaws.{in-parent, child-within}
+use Rattle.tree.proofs.SubtreeLaws.{child-within}
+use Rattle.marks.proofs.ChildWalkLaws.{in-parent}
 use Rattle.marks.proofs.SiblingLaws.{later-on}
 use Rattle.marks.proofs.LaterLaws.{later-parent}
 use Rattle.scan.specs.declared.want.Want.{Want}

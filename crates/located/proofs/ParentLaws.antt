@@ -1,7 +1,6 @@
--- The search for the parent of row w from row i down, where the rows between have another level than the parent:
--- `parent-within`, the parent comes before them; `parent-here`, row i is it; `parent-other`, an earlier row is.
--- Assumes nothing.
-use mathlib.Core.Path.{_≡_, refl, ap, _∙_}
+-- The search for the parent of row w from a row i down, where the rows between have another level than the parent:
+-- `parent-within`, the parent comes before them; `parent-here`, row i is it. Assumes nothing.
+use mathlib.Core.Path.{_≡_, refl}
 use mathlib.Core.Logic.{⊎-elim}
 use mathlib.Core.List.{List}
 use Prim.Native.Nat.{ℕ, zero, suc, _+_, _<_, _≤_}
@@ -21,19 +20,9 @@ module _ (level : List ℕ) (w up : ℕ) (own : at level w ≡ up + 1) where
           (λ (l : i ≤ p). absurd (none p l (parent-below level w p e) (omega (arith, parent-less level w p e))))
           (less? p i)
 
-  module _ (i : ℕ) (l : i < w) (within : parent level w ≤ i + 1) where
-    pub parent-here : at level i ≡ up → parent level w ≡ i + 1
-    parent-here e = ⊎-elim
-        (λ (h : parent level w < i + 1). absurd (parent-skip level w i (omega arith) l (omega arith)))
-        (λ h. omega arith)
-        (less? (parent level w) (i + 1))
-
-    pub parent-other : (at level i ≡ up → ⊥) → parent level w ≤ i
-    parent-other ne = go (parent level w) refl
-      where
-        go : (q : ℕ) → parent level w ≡ q → q ≤ i
-        go zero e = omega arith
-        go (suc p) e = ⊎-elim (λ (h : p < i). h)
-            (λ (h : i ≤ p). absurd (ne (let z : i ≡ p = omega arith in
-            ap (at level) z ∙ (let y : at level p ≡ up = omega (arith, parent-less level w p e) in y))))
-            (less? p i)
+  -- the parent is row i or an earlier one, and row i has its level
+  pub parent-here : (i : ℕ) → i < w → parent level w ≤ i + 1 → at level i ≡ up → parent level w ≡ i + 1
+  parent-here i l within e = ⊎-elim
+      (λ (h : parent level w < i + 1). absurd (parent-skip level w i (omega arith) l (omega arith)))
+      (λ h. omega arith)
+      (less? (parent level w) (i + 1))

@@ -10,7 +10,8 @@ use basics::one_of;
 use tree::Child;
 use tree::Located;
 
-// The row, or an earlier one, before which the level up is met first: eight rows at a time, in half the time.
+// The row, or an earlier one from which on, before the row, no row has the level up: eight rows are passed over at a
+// time.
 fn past_eights(level: &[usize], row: usize, up: usize) -> usize
     requires { ⌜ row ≤ length (now level) ⌝ }
     ensures { λ r. ⌜ (r ≤ row) × ((j : ℕ) → r ≤ j → j < row → at (now (level .entry)) j ≡ up → ⊥) ⌝ }

@@ -1,11 +1,10 @@
--- The children of a row in rows whose levels and sizes make a tree, met by hops over subtrees: `child-within`,
--- `child-first`, `child-next`, `child-none`, `child-empty`. The walk that puts them into a set, word by word:
--- `walk-start`, `walk-gathers`, `walk-next`, `walk-done`, and where it has nothing to do, `walk-nothing`, `walk-met`.
--- Its rows are in use: `row-in-use`; below the row: `in-under`; and have no parent before it: `in-parent`. Assumes
--- nothing.
+-- The children of a row in rows whose levels and sizes make a tree, met by hops over subtrees: `child-first`,
+-- `child-next`, `child-none`, `child-empty`. The walk that puts them into a set, word by word: `walk-start`,
+-- `walk-gathers`, `walk-next`, `walk-done`, and where it has nothing to do, `walk-nothing`, `walk-met`. Its rows are in
+-- use: `row-in-use`; and have no parent before the row: `in-parent`. Assumes nothing.
 use Prim.Native.Nat.{ℕ, suc, _+_, _*_, _/_, _<_, _≤_}
-use mathlib.Core.Path.{_≡_, refl, sym, ap, _∙_}
-use mathlib.Core.Logic.{_⊎_, ⊎-elim}
+use mathlib.Core.Path.{_≡_, refl, ap, _∙_}
+use mathlib.Core.Logic.{⊎-elim}
 use mathlib.Core.Bool.{Bool, true, _&&_, _||_}
 use mathlib.Core.List.{List}
 use native.Mathlib.Nat.{le-refl, eq-or-lt-of-le}
@@ -16,9 +15,9 @@ use lib.Dec.{eqb, ltb, leb}
 use Rattle.tree.specs.Table.{at}
 use Rattle.tree.specs.Tree.{parent}
 use Rattle.tree.specs.Rules.{Shape}
-use Rattle.tree.proofs.TreeLaws.{Under, less?, parent-is, parent-less, parent-below, from-parent}
-use Rattle.tree.proofs.TreeLaws.{under-parent, ancestor-under}
-use Rattle.tree.proofs.SoundLaws.{shape-steps, shape-descendants, shape-fits}
+use Rattle.tree.proofs.TreeLaws.{Under, less?, parent-less, parent-below, from-parent}
+use Rattle.tree.proofs.SoundLaws.{shape-steps, shape-fits}
+use Rattle.tree.proofs.SubtreeLaws.{in-under, under-in, child-is}
 use Rattle.tree.proofs.SoundLaws.{both, both-of, either, either-left, either-right}
 use Rattle.tree.proofs.AxisLaws.{same-test}
 use Rattle.marks.specs.RowSet.{has, inWord}
@@ -31,13 +30,7 @@ module _ {size level : List ℕ} {n : ℕ} (s : Shape size level n) where
   pub row-in-use : {p e : ℕ} → p < n → e ≤ p + at size p + 1 → (v : ℕ) → v < e → v < n
   row-in-use {p} m h v q = omega (arith, shape-fits s p m)
 
-  -- the next size rows are deeper, and no row past them is deeper without a break
-  pub in-under : (c w : ℕ) → c < n → c < w → w ≤ c + at size c → Under level c w
-  in-under c w m a b =
-      let l : w < n = omega (arith, shape-fits s c m) in
-      ancestor-under level n (shape-steps s) c w l .0 (shape-descendants s c w m l .1 (a, b))
-
-  -- none of these rows has a parent before the row
+  -- none of the next size rows has a parent before the row
   pub in-parent : (p d : ℕ) → p < n → p < d → d ≤ p + at size p → suc p ≤ parent level d
   in-parent p d m a b = ⊎-elim
       (λ (x : parent level d < suc p).
@@ -45,50 +38,31 @@ module _ {size level : List ℕ} {n : ℕ} (s : Shape size level n) where
       absurd (omega (
         arith,
         from-parent level n (shape-steps s) d l p (omega arith) a,
-        in-under p d m a b .deeper d a (le-refl d),
+        in-under s p d m a b .deeper d a (le-refl d),
       )))
       (λ x. x)
       (less? (parent level d) (suc p))
 
-  under-in : (c w : ℕ) → c < n → w < n → Under level c w → w ≤ c + at size c
-  under-in c w m l u = shape-descendants s c w m l .0 (ancestor-under level n (shape-steps s) c w l .1 u) .1
-
-  -- a child is one of the next size rows
-  pub child-within : (p w : ℕ) → w < n → parent level w ≡ suc p → w ≤ p + at size p
-  child-within p w l e =
-      let b : p < w = parent-below level w p e in
-      under-in p w (omega arith) l (under-parent level n (shape-steps s) w p l e)
-
-  -- one level deeper among the next size rows: a child
-  child-is : (p w : ℕ) → p < n → p < w → w ≤ p + at size p → at level w ≡ at level p + 1 → parent level w ≡ suc p
-  child-is p w m a b e =
-      let u : Under level p w = in-under p w m a b in
-      parent-is level w p record {
-        earlier = a;
-        less = sym e;
-        closest = λ k x y q. omega (arith, u .deeper k x (omega arith));
-      }
-
   -- the next row is a child, where there are any
   pub child-first : (p : ℕ) → p < n → 0 < at size p → parent level (p + 1) ≡ suc p
   child-first p m a =
-      let u : Under level p (p + 1) = in-under p (p + 1) m (omega arith) (omega arith) in
+      let u : Under level p (p + 1) = in-under s p (p + 1) m (omega arith) (omega arith) in
       let d : at level p < at level (p + 1) = u .deeper (p + 1) (omega arith) (le-refl (p + 1)) in
       let g : at level (suc p) ≤ at level p + 1 = shape-steps s p (omega (arith, shape-fits s p m)) in
       let q : at level (p + 1) ≡ at level (suc p) = ap (at level) (add-one p) in
-      child-is p (p + 1) m (omega arith) (omega arith) (omega arith)
+      child-is s p (p + 1) m (omega arith) (omega arith) (omega arith)
 
   -- no row below a child is a child of the same row
   pub child-none : (p w v : ℕ) → w < n → parent level w ≡ suc p → w < v → v ≤ w + at size w
       → parent level v ≡ suc p → ⊥
   child-none p w v l e a b f =
-      let u : Under level w v = in-under w v l a b in
+      let u : Under level w v = in-under s w v l a b in
       omega (arith, u .deeper v a (le-refl v), parent-less level w p e, parent-less level v p f)
 
   -- the row after the descendants of a row is no deeper than it
   stop-level : (w v : ℕ) → w < n → v < n → v ≡ w + at size w + 1 → at level v ≤ at level w
   stop-level w v l m q = ⊎-elim
-      (λ (d : at level w < at level v). absurd (omega (arith, under-in w v l m (deep d))))
+      (λ (d : at level w < at level v). absurd (omega (arith, under-in s w v l m (deep d))))
       (λ d. d)
       (less? (at level w) (at level v))
     where
@@ -97,7 +71,7 @@ module _ {size level : List ℕ} {n : ℕ} (s : Shape size level n) where
         after = omega arith;
         deeper = λ k x y. ⊎-elim
             (λ (e : k ≡ v). let z : at level k ≡ at level v = ap (at level) e in omega arith)
-            (λ (h : k < v). in-under w k l x (omega arith) .deeper k x (le-refl k))
+            (λ (h : k < v). in-under s w k l x (omega arith) .deeper k x (le-refl k))
             (eq-or-lt-of-le y);
       }
 
@@ -108,8 +82,8 @@ module _ {size level : List ℕ} {n : ℕ} (s : Shape size level n) where
       let v : ℕ = w + at size w + 1 in
       let a : p < w = parent-below level w p e in
       let h : v < n = omega (arith, shape-fits s p m) in
-      let u : Under level p v = in-under p v m (omega arith) b in
-      child-is p v m (omega arith) b
+      let u : Under level p v = in-under s p v m (omega arith) b in
+      child-is s p v m (omega arith) b
       (omega (arith, u .deeper v (omega arith) (le-refl v), stop-level w v l h refl, parent-less level w p e))
 
 -- ── the walk ──

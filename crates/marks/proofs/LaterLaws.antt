@@ -20,7 +20,8 @@ use Rattle.tree.proofs.AxisLaws.{same-test, false-of}
 use Rattle.scan.proofs.SideLaws.{nests}
 use Rattle.marks.specs.RowSet.{Marked}
 use Rattle.marks.specs.Mark.{childIn, Joined, AddsChildren, Turn}
-use Rattle.marks.proofs.ChildWalkLaws.{child-within, child-next, child-none, ChildIn, child-in, in-child}
+use Rattle.tree.proofs.SubtreeLaws.{child-within}
+use Rattle.marks.proofs.ChildWalkLaws.{child-next, child-none, ChildIn, child-in, in-child}
 use Rattle.marks.proofs.ContextLaws.{marked-also, turn-row, turn-take, none-take}
 use Rattle.marks.proofs.SiblingLaws.{later-on, on-later}
 

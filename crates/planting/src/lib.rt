@@ -18,7 +18,7 @@ pub fn open_rows(
     kind: &mut [usize],
     name: &mut [usize],
     count: usize,
-    found: Located,
+    located: Located,
     p_key: &[usize],
     p_size: &[usize],
     p_level: &[usize],
@@ -26,20 +26,20 @@ pub fn open_rows(
     p_name: &[usize],
     p_count: usize,
 ) -> Edited
-    requires { ⌜ PieceChecked (tableOf (now key) (now size) (now level) (now kind) (now name) count) found
+    requires { ⌜ PieceChecked (tableOf (now key) (now size) (now level) (now kind) (now name) count) located
         (tableOf (now «p_key») (now «p_size») (now «p_level») (now «p_kind») (now «p_name») «p_count») ⌝ }
     ensures { λ r. ⌜ EditLeaves (insertAt
         (tableOf (now (key .entry)) (now (size .entry)) (now (level .entry)) (now (kind .entry))
-        (now (name .entry)) count) (rowThere found)
+        (now (name .entry)) count) (rowThere located)
         (tableOf (now («p_key» .entry)) (now («p_size» .entry)) (now («p_level» .entry)) (now («p_kind» .entry))
         (now («p_name» .entry)) «p_count»)) r
         (now (key .exit)) (now (size .exit)) (now (level .exit)) (now (kind .exit)) (now (name .exit)) ⌝ }
 {
-    let row = located::row_there(found);
+    let row = located::row_there(located);
     let after = row + 1;
     let gap = after + size[row];
     let add = level[row] + 1;
-    sizes::raise(size, level, count, found, p_count);
+    sizes::raise(size, level, count, located, p_count);
     open_column(key, count, gap, p_key, p_count);
     open_column(size, count, gap, p_size, p_count);
     open_column_raised(level, count, gap, p_level, p_count, add);

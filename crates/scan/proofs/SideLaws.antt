@@ -10,8 +10,9 @@ use native.Mathlib.Numerals.{add-one}
 use native.Mathlib.Omega.{arith}
 use Rattle.tree.specs.Table.{at}
 use Rattle.tree.specs.Rules.{Shape}
-use Rattle.tree.proofs.TreeLaws.{Under, less?, ancestor-under}
-use Rattle.tree.proofs.SoundLaws.{shape-steps, shape-descendants, shape-fits}
+use Rattle.tree.proofs.TreeLaws.{less?}
+use Rattle.tree.proofs.SoundLaws.{shape-fits}
+use Rattle.tree.proofs.SubtreeLaws.{nested}
 use Rattle.scan.specs.Range.{firstAfter, Nests, Ended}
 
 -- ── the least row after one of the contexts ──
@@ -54,36 +55,12 @@ module _ (size : List ℕ) (n : ℕ) (cs : List ℕ) where
 
 -- ── nesting ──
 pub nests : {size level : List ℕ} {n : ℕ} → Shape size level n → Nests size n
-nests {size} {level} {n} s = record {
+nests s = record {
   few = s .few;
   in-size = s .in-size;
   inside = shape-fits s;
-  within = within;
+  within = nested s;
 }
-  where
-    under : (v w : ℕ) → v < n → w < n → v < w → w ≤ v + at size v → Under level v w
-    under v w m l a b = ancestor-under level n (shape-steps s) v w l .0 (shape-descendants s v w m l .1 (a, b))
-
-    -- below a row below v
-    through : (v w u : ℕ) → Under level v w → Under level w u → Under level v u
-    through v w u a b = record {
-      after = omega (arith, a .after, b .after);
-      deeper = λ k x y. ⊎-elim
-          (λ (q : w < k). omega (arith, a .deeper w (a .after) (le-refl w), b .deeper k q y))
-          (λ q. a .deeper k x q)
-          (less? w k);
-    }
-
-    within : (v w : ℕ) → v < n → v < w → w ≤ v + at size v → w + at size w ≤ v + at size v
-    within v w m a b =
-        let l : w < n = omega (arith, shape-fits s v m) in
-        let e : w + at size w < n = shape-fits s w l in
-        ⊎-elim
-        (λ (q : w < w + at size w).
-        shape-descendants s v (w + at size w) m e .0 (ancestor-under level n (shape-steps s) v (w + at size w) e .1
-        (through v w (w + at size w) (under v w m l a b) (under w (w + at size w) l e q (le-refl _)))) .1)
-        (λ (q : w + at size w ≤ w). omega arith)
-        (less? w (w + at size w))
 
 -- ── from subtree to subtree ──
 -- the rows from w on, and before v, have ended before row c

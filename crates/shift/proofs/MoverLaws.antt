@@ -104,7 +104,7 @@ pub put-end : {src xs part : List ℕ} {i : ℕ} (n : ℕ) → Put src xs part i
 put-end {src} {xs} n p h k = p .is ∙ ap (λ (m : ℕ). take m src ++ drop m xs) (le-antisymm h k)
 
 -- what a turn reads from i on is what stood there
-pub put-read : {src xs part : List ℕ} {i : ℕ} (j : ℕ) → Put src xs part i → i < length src
+put-read : {src xs part : List ℕ} {i : ℕ} (j : ℕ) → Put src xs part i → i < length src
     → getD part (i + j) 0 ≡ getD xs (i + j) 0
 put-read {src} {xs} {part} {i} j p h =
     let front : length (take i src) ≡ i = length-take-le i src (omega arith) in

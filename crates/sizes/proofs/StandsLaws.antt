@@ -1,8 +1,8 @@
 -- A row that was found, and the sizes above it: its own size, `row-asks`. A root: only its own size rises,
 -- `root-raised`. A row under a parent: the sizes from its parent up may change, `child-resizable`, and are those of its
 -- ancestors, `child-resized`; its own size is as it was, `child-asks`, and rises last, `child-raised`. Assumes nothing.
-use mathlib.Core.Path.{_≡_, refl, sym, ap, _∙_}
-use mathlib.Core.Bool.{Bool, true, false}
+use mathlib.Core.Path.{_≡_, sym, ap, _∙_}
+use mathlib.Core.Bool.{true}
 use mathlib.Core.List.{List}
 use Prim.Native.Nat.{ℕ, suc, _+_, _-_, _≤_, _<_}
 use native.Mathlib.Omega.{arith}
@@ -16,11 +16,10 @@ use Rattle.tree.specs.declared.Located.{Located}
 use Rattle.tree.specs.declared.Located.the-variants.{Root, Under}
 use Rattle.tree.proofs.TreeLaws.{parent-below}
 use Rattle.tree.proofs.SoundLaws.{shape-fits}
-use Rattle.tree.proofs.StandingLaws.{root-stands, under-stands}
-use Rattle.tree.proofs.LevelLaws.{not-own}
-use Rattle.tree.proofs.ColumnLaws.{changed-not, changed-none, length-changed}
+use Rattle.tree.proofs.StandingLaws.{root-stands, under-stands, root-level}
+use Rattle.tree.proofs.LevelLaws.{ancestor-step, not-own, root-alone}
+use Rattle.tree.proofs.ColumnLaws.{changed-not, changed-none, changed-ext, changed-set, set-changed, length-changed}
 use Rattle.sizes.specs.Upward.{upFrom, resized, Resizable, Stands}
-use Rattle.sizes.proofs.UpLaws.{changed-ext, changed-set, set-changed, above-parent, above-root}
 
 -- the row has a size, in bounds
 pub row-asks : {size level : List ℕ} {n : ℕ} {f : Located} → Stands size level n f
@@ -35,7 +34,8 @@ module _ {size level : List ℕ} {n : ℕ} where
   pub root-raised : (r by : ℕ) → Stands size level n (Root r)
       → set size r (at size r + by) ≡ changed (upFrom level r) (λ z. z + by) size
   root-raised r by s =
-      sym (changed-none _ _ _ (above-root (s .shape) r (s .in-use) (root-stands level r r (sym (s .there)) .1)))
+      let top = root-level (s .shape) r (s .in-use) .0 (root-stands level r r (sym (s .there)) .1) in
+      sym (changed-none _ _ _ (root-alone (s .shape) r (s .in-use) top))
       ∙ changed-set (λ i. ancestor level i r) (λ z. z + by) size r (not-own (s .shape) r (s .in-use))
 
   -- ── a row under a parent ──
@@ -45,7 +45,7 @@ module _ {size level : List ℕ} {n : ℕ} where
 
     -- its ancestors are its parent and the rows above that
     same : (i : ℕ) → ancestor level i (c .row) ≡ upFrom level (c .parent) i
-    same = above-parent (s .shape) (c .row) (s .in-use) (c .parent) up
+    same i = ancestor-step (s .shape) i (c .row) (c .parent) (s .in-use) up
 
     pub child-resizable : (more less : ℕ) → more ≤ mostRows
         → ((i : ℕ) → ancestor level i (c .row) ≡ true → less ≤ at size i)

@@ -1,5 +1,5 @@
-// The sizes above an edited row: RULES 01, "Finding and editing by key". They change on the way up from the parent that
-// was found with the row; each next ancestor is the nearest earlier row one level up.
+// The sizes above an edited row: RULES 01, "Finding and editing by key"; RULES 02, E3. They change on the way up from
+// the parent that was found with the row; each next ancestor is the nearest earlier row one level up.
 ghost use mathlib.Core.Path.{_≡_};
 ghost use mathlib.Core.Bool.{true};
 ghost use Prim.Native.Nat.{ℕ, _+_, _-_, _<_, _≤_};
@@ -13,7 +13,7 @@ ghost use Rattle.sizes.specs.Upward.{upFrom, resized, Resizable, Stands}
 use tree::Child;
 use tree::Located;
 
-// Adds more to the sizes of a row and of all its ancestors, and takes less from them.
+// The sizes of a row and of all its ancestors rise by `more` and fall by `less`.
 fn resize_up(
     size: &mut [usize],
     level: &[usize],
@@ -35,7 +35,7 @@ fn resize_up(
     size[i] = size[i] + more - less;
 }
 
-// Adds by to the size of a row.
+// The size of a row rises by `by`.
 fn enlarge(size: &mut [usize], row: usize, by: usize)
     requires { ⌜ (row < length (now size)) × (at (now size) row ≤ 4096) × (by ≤ 4096) ⌝ }
     ensures { λ _. ⌜ now (size .exit) ≡ set (now (size .entry)) row (at (now (size .entry)) row + by) ⌝ }
@@ -43,13 +43,13 @@ fn enlarge(size: &mut [usize], row: usize, by: usize)
     size[row] = size[row] + by;
 }
 
-// Adds by to the sizes of the row found and of all its ancestors.
-pub fn raise(size: &mut [usize], level: &[usize], count: usize, found: Located, by: usize)
-    requires { ⌜ Stands (now size) (now level) count found × (by ≤ 4096) ⌝ }
+// The sizes of the row that was found and of all its ancestors rise by `by`.
+pub fn raise(size: &mut [usize], level: &[usize], count: usize, located: Located, by: usize)
+    requires { ⌜ Stands (now size) (now level) count located × (by ≤ 4096) ⌝ }
     ensures { λ _. ⌜ now (size .exit)
-        ≡ changed (upFrom (now (level .entry)) (rowThere found)) (λ s. s + by) (now (size .entry)) ⌝ }
+        ≡ changed (upFrom (now (level .entry)) (rowThere located)) (λ s. s + by) (now (size .entry)) ⌝ }
 {
-    match found {
+    match located {
         Located::Root(row) => enlarge(size, row, by),
         Located::Under(child) => {
             resize_up(size, level, count, child.parent, by, 0);
@@ -58,7 +58,7 @@ pub fn raise(size: &mut [usize], level: &[usize], count: usize, found: Located, 
     }
 }
 
-// Takes by from the sizes of all ancestors of a row that has a parent.
+// The sizes of all ancestors of a row that has a parent fall by `by`.
 pub fn lower(size: &mut [usize], level: &[usize], count: usize, child: Child, by: usize)
     requires { ⌜ Stands (now size) (now level) count (Under child) ⌝ }
     requires { ⌜ ((i : ℕ) → ancestor (now level) i (child .row) ≡ true → by ≤ at (now size) i) ⌝ }

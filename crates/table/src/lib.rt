@@ -1,5 +1,5 @@
-// What every call checks first, and finding a row by its key: RULES 01, "The table" and "Finding and editing by
-// key". No column is changed.
+// What every call checks first, and finding by its key where a row stands: RULES 01, "The table" and "Finding and
+// editing by key"; RULES 02, E3. No column is changed.
 ghost use mathlib.Core.Path.{_≡_};
 ghost use Rattle.tree.specs.Table.{tableOf};
 ghost use Rattle.tree.specs.Rules.{Sound};

@@ -1,21 +1,25 @@
 -- The columns of an edited table: RULES 01, "Finding and editing by key". Where a row stands afterwards:
 -- `opened-stays`, `opened-moves`, `closed-stays`, `closed-moves`; the rows that came in, `opened-new`, the freed ones,
 -- `closed-freed`, and the spare ones, `opened-spare`, `closed-spare`; what a row holds where sizes change:
--- `changed-at`, `changed-not`, `changed-take`, `changed-none`, `changed-after`. Rows in use and what follows them:
+-- `changed-at`, `changed-not`, `changed-take`, `changed-none`, `changed-after`; by tests that agree, `changed-ext`; at
+-- one row more, before the others or after them, `changed-set`, `set-changed`. Rows in use and what follows them:
 -- `opened-is`, `closed-is`. No column changes its length: `length-opened`, `length-closed`, `length-changed`. The part
 -- of a column from a row on, lent and back: `tail-mid`, `tail-put`. Assumes nothing.
 use mathlib.Core.Path.{_≡_, refl, sym, ap, ap₂, _∙_}
-use mathlib.Core.Bool.{Bool, false, cond}
+use mathlib.Core.Bool.{Bool, false, cond, _||_}
 use mathlib.Core.List.{List, [], _∷_, _++_, append-assoc, append-nil}
 use Prim.Native.Nat.{ℕ, zero, suc, _+_, _-_, _<_, _≤_}
 use native.Mathlib.Nat.{le-of-suc-le-suc, not-suc-le-zero}
 use native.Mathlib.Omega.{arith}
-use lib.ListN.{length, take, drop, replicate, length-append, length-take, length-drop, length-replicate}
+use borrow.Author.Tests.{eqb-true, eq-eqb, ne-eqb}
+use lib.Dec.{eqb}
+use lib.ListN.{length, take, drop, replicate, set, length-append, length-take, length-drop, length-replicate}
 use lib.ListN.{List·getD-append, getD-replicate, drop-of-length-le}
 use lib.Seq.{take-take, take-add, take-all, drop-at, length-take-le, getD-take, getD-drop, getD-append-add}
 use borrow.Rule.Slice.PartMut.{midOf, putMid}
 use Rattle.tree.specs.Table.{at}
 use Rattle.tree.specs.Edit.{opened, closed, changed}
+use Rattle.tree.proofs.AxisLaws.{same-test}
 
 -- what stands at n in two lists, one behind the other, where n is past the first
 at-past : (a b : List ℕ) (n i : ℕ) → length a + i ≡ n → at (a ++ b) n ≡ at b i
@@ -183,6 +187,56 @@ unfolding changed
 changed-after f g zero xs h = changed-none f g xs (λ i. h i (omega arith))
 changed-after f g (suc n) [] h = refl
 changed-after f g (suc n) (x ∷ xs) h = changed-after (λ i. f (suc i)) g n xs (λ i l. h (suc i) (omega arith))
+
+-- two tests that agree, and two ways of changing that do, change the same
+pub changed-ext : (f h : ℕ → Bool) (g k : ℕ → ℕ) (xs : List ℕ) → ((i : ℕ) → f i ≡ h i) → ((x : ℕ) → g x ≡ k x)
+    → changed f g xs ≡ changed h k xs
+unfolding changed
+changed-ext f h g k [] e d = refl
+changed-ext f h g k (x ∷ xs) e d =
+    ap₂ (λ (y : ℕ) (z : List ℕ). y ∷ z) (ap₂ (λ (b : Bool) (y : ℕ). cond b y x) (e zero) (d x))
+    (changed-ext (λ i. f (suc i)) (λ i. h (suc i)) g k xs (λ i. e (suc i)) d)
+
+-- a test for row a, with the column's first row taken off
+first-off : (f : ℕ → Bool) (i : ℕ) → (eqb (suc i) zero || f i) ≡ f i
+first-off f i = ap (λ (b : Bool). b || f i) (ne-eqb (suc i) zero (λ e. omega arith))
+
+later-off : (f : ℕ → Bool) (a i : ℕ) → (eqb (suc i) (suc a) || f i) ≡ (eqb i a || f i)
+later-off f a i = ap (λ (b : Bool). b || f i) (same-test _ _
+    (λ e. let z : suc i ≡ suc a = eqb-true (suc i) (suc a) e in eq-eqb i a (omega arith))
+    (λ e. eq-eqb (suc i) (suc a) (ap suc (eqb-true i a e))))
+
+-- row a changed first, then the rows that pass
+pub changed-set : (f : ℕ → Bool) (g : ℕ → ℕ) (xs : List ℕ) (a : ℕ) → f a ≡ false
+    → changed f g (set xs a (g (at xs a))) ≡ changed (λ i. eqb i a || f i) g xs
+unfolding changed
+changed-set f g [] a e = refl
+changed-set f g (x ∷ xs) zero e =
+    ap₂ (λ (y : ℕ) (z : List ℕ). y ∷ z)
+    (ap (λ (b : Bool). cond b (g (g x)) (g x)) e
+    ∙ sym (ap (λ (b : Bool). cond (b || f zero) (g x) x) (eq-eqb zero zero refl)))
+    (changed-ext _ _ g g xs (λ i. sym (first-off (λ j. f (suc j)) i)) (λ z. refl))
+changed-set f g (x ∷ xs) (suc a) e =
+    ap₂ (λ (y : ℕ) (z : List ℕ). y ∷ z)
+    (sym (ap (λ (b : Bool). cond (b || f zero) (g x) x) (ne-eqb zero (suc a) (λ z. omega arith))))
+    (changed-set (λ i. f (suc i)) g xs a e
+    ∙ changed-ext _ _ g g xs (λ i. sym (later-off (λ j. f (suc j)) a i)) (λ z. refl))
+
+-- the rows that pass changed first, then row a
+set-last : (f : ℕ → Bool) (g : ℕ → ℕ) (xs : List ℕ) (a : ℕ) → f a ≡ false
+    → set (changed f g xs) a (g (at xs a)) ≡ changed f g (set xs a (g (at xs a)))
+unfolding changed
+set-last f g [] a e = refl
+set-last f g (x ∷ xs) zero e =
+    ap (λ (b : Bool). cond b (g (g x)) (g x) ∷ changed (λ i. f (suc i)) g xs) (sym e)
+set-last f g (x ∷ xs) (suc a) e =
+    ap (λ (z : List ℕ). cond (f zero) (g x) x ∷ z) (set-last (λ i. f (suc i)) g xs a e)
+
+pub set-changed : (f : ℕ → Bool) (g : ℕ → ℕ) (xs : List ℕ) (a : ℕ) → f a ≡ false
+    → set (changed f g xs) a (g (at (changed f g xs) a)) ≡ changed (λ i. eqb i a || f i) g xs
+set-changed f g xs a e =
+    ap (λ (z : ℕ). set (changed f g xs) a (g z)) (changed-not f g xs a e) ∙ set-last f g xs a e
+    ∙ changed-set f g xs a e
 
 -- the length stays
 pub length-changed : (f : ℕ → Bool) (g : ℕ → ℕ) (xs : List ℕ) → length (changed f g xs) ≡ length xs

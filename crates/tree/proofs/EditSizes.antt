@@ -5,8 +5,7 @@ use mathlib.Core.Path.{_≡_, refl, sym, ap, ap₂, _∙_}
 use mathlib.Core.Bool.{Bool, true, false, cond, _||_, false≢true}
 use mathlib.Core.List.{List, [], _∷_, _++_, append-assoc}
 use Prim.Native.Nat.{ℕ, zero, suc, _+_, _-_, _<_, _≤_}
-use native.Mathlib.Nat.{le-refl, le-of-suc-le-suc, not-suc-le-zero}
-use native.Mathlib.Decide.{decLe, ℕ-discrete}
+use native.Mathlib.Nat.{le-of-suc-le-suc, not-suc-le-zero}
 use native.Mathlib.Omega.{arith}
 use borrow.Author.Tests.{eq-eqb, ne-eqb, lt-ltb, ltb-true}
 use lib.Dec.{eqb, ltb}
@@ -16,8 +15,9 @@ use Rattle.tree.specs.Table.{Table, at}
 use Rattle.tree.specs.Tree.{ancestor}
 use Rattle.tree.specs.Edit.{opened, closed, changed, gapOf, inserted, deleted}
 use Rattle.tree.specs.Rules.{Sound}
-use Rattle.tree.proofs.TreeLaws.{Under, ancestor-under}
-use Rattle.tree.proofs.SoundLaws.{sound-shape, shape-fits, sound-steps, sound-descendants, either-left}
+use Rattle.tree.proofs.TreeLaws.{ancestor-under}
+use Rattle.tree.proofs.SoundLaws.{sound-shape, sound-steps, sound-descendants, either-left}
+use Rattle.tree.proofs.SubtreeLaws.{nested}
 use Rattle.tree.proofs.AxisLaws.{same-test}
 use Rattle.tree.proofs.ColumnLaws.{opened-is, closed-is, changed-at, changed-take, changed-after}
 use Rattle.tree.proofs.ColumnLaws.{length-changed}
@@ -95,25 +95,8 @@ module _ (t : Table) (s : Sound t) (r : ℕ) (h : r < t .count) where
   -- an ancestor's descendants are those of r, r and perhaps more
   pub ancestor-larger : (i : ℕ) → i < t .count → ancestor (t .level) i r ≡ true → at (t .size) r + 1 ≤ at (t .size) i
   ancestor-larger i l e =
-      let d = sound-descendants t s i r l h .0 e in
-      let m : r + at (t .size) r < t .count = shape-fits (sound-shape t s) r h in
-      let steps = sound-steps t s in
-      elim (ℕ-discrete (at (t .size) r) 0) [
-        | yes z ↦ omega arith
-        | no z ↦
-            let w : ℕ = r + at (t .size) r in
-            let a : Under (t .level) i r = ancestor-under (t .level) (t .count) steps i r h .0 e in
-            let b : Under (t .level) r w =
-            ancestor-under (t .level) (t .count) steps r w m .0 (sound-descendants t s r w h m .1 (omega arith)) in
-            let u : Under (t .level) i w = record {
-              after = omega (arith, a .after, b .after);
-              deeper = λ k x y. elim (decLe k r) [
-                | yes q ↦ a .deeper k x q
-                | no q ↦ omega (arith, a .deeper r (a .after) (le-refl r), b .deeper k (omega arith) y)
-              ];
-            } in
-            omega (arith, sound-descendants t s i w l m .0 (ancestor-under (t .level) (t .count) steps i w m .1 u) .1)
-      ]
+      let (a, b) = sound-descendants t s i r l h .0 e in
+      omega (arith, nested (sound-shape t s) i r l a b)
 
   -- so the ancestors are the rows whose size reaches r
   ancestors-reach : Reaches (λ i. ancestor (t .level) i r) r (sizes (nodesOf t))

@@ -3,7 +3,7 @@
 use mathlib.Core.Path.{_≡_, refl}
 use mathlib.Core.List.{List, [], _∷_, map}
 use Rattle.tree.specs.Search.{least, nearest, someBelow}
-use Rattle.tree.specs.Table.{tableOf, shortest, countOk}
+use Rattle.tree.specs.Table.{shortest, countOk}
 use Rattle.tree.specs.Sound.{levelOk, runOf, sizeOf, sizeOk, kindOk, hasName, nameOk, rowOf, keyOk}
 use Rattle.tree.specs.Sound.{besideKeyOk, rowOk, firstBad}
 use Rattle.tree.specs.Tree.{parent, above, ancestor, otherRoot}

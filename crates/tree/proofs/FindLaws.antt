@@ -1,9 +1,10 @@
 -- What finding a key answers: RULES 01, "Finding and editing by key". Refusals: `given-refused`, of any check;
 -- `table-numbers`, the table's are 1 and 2; `key-refused`, an edit's key gets 9 exactly if no row in use has it.
 -- Finding: `find-none`, refusal 9 exactly if the table is sound and no row in use has the key; `find-zero`, so always
--- for key 0; `find-row`, a row is found for its key; `find-found`, exactly a row that has the key is found. Where it is
--- and under what, RULES 02, E3: `find-only-row`, `find-root`, `find-under`, `find-level`; the call that is saved,
--- `find-parent`, `find-axis`, `root-axis`. Assumes nothing.
+-- for key 0; `find-row`, a row is found for its key; `find-stands`, what is found is where a row with the key stands;
+-- `find-found`, exactly a row that has the key is found. Where it is and under what, RULES 02, E3: `find-only-row`,
+-- `find-root`, `find-under`, `find-level`; the call that is saved, `find-parent`, `find-axis`, `root-axis`. Assumes
+-- nothing.
 use mathlib.Core.Path.{_≡_, refl, sym, ap, subst, _∙_}
 use mathlib.Core.Logic.{_⊎_, inl, inr, ⊎-elim, _↔_}
 use mathlib.Core.Bool.{Bool, true, false, cond, not}
@@ -29,7 +30,8 @@ use Rattle.tree.proofs.SoundLaws.{table-passes, next-first, find-at, so
 use Rattle.tree.proofs.AxisLaws.{axis-parent}
 use Rattle.tree.proofs.AcceptLaws.{no-key}
 use Rattle.tree.proofs.EditLaws.{rowIn, row-key}
-use Rattle.tree.proofs.StandingLaws.{stands-row, stands-root, stands-under, root-stands, under-stands, rootless}
+use Rattle.tree.proofs.StandingLaws.{stands-row, stands-root, stands-under, root-stands, under-stands}
+use Rattle.tree.proofs.StandingLaws.{root-level}
 
 -- ── refusals ──
 -- a check refuses exactly for its reason, with its number and place
@@ -135,9 +137,9 @@ module _ (t : Table) where
       ↔ (Sound t × (i < t .count) × (at (t .key) i ≡ k) × (at (t .level) i ≡ 0))
   find-root k i = (
     λ e. let (s, m, q, z) = find-stands k (Root i) e in
-        (s, m, q, rootless (sound-shape t s) i m .0 (root-stands (t .level) i i (sym z) .1)),
+        (s, m, q, root-level (sound-shape t s) i m .0 (root-stands (t .level) i i (sym z) .1)),
     λ h. let (s, m, q, z) = h in
-        find-found k i .1 (s, m, q) ∙ ap At (stands-root (t .level) i (rootless (sound-shape t s) i m .1 z)),
+        find-found k i .1 (s, m, q) ∙ ap At (stands-root (t .level) i (root-level (sound-shape t s) i m .1 z)),
   )
 
   -- any other row with its level and its parent: the nearest earlier row whose level is one less

@@ -1,7 +1,7 @@
 -- What the levels alone decide in rows that make a tree: the sizes (`sizes-only`), and how many ancestors a row has
 -- (`ancestors-count`), so that at most 64 rows are open at a time (`open-most`). `ancestor-step`: the ancestors of
--- a row are its parent and the parent's ancestors.
--- Assumes nothing.
+-- a row are its parent and the parent's ancestors; `root-alone`: a root has none; `not-own`: no row is its own.
+-- `has-parent`: every row above level 0 has a parent. Assumes nothing.
 use mathlib.Core.Path.{_≡_, refl, sym, ap, ap₂, _∙_}
 use mathlib.Core.Logic.{_⊎_, inl, inr, ⊎-elim}
 use mathlib.Core.Bool.{Bool, true, false, _||_}
@@ -22,7 +22,7 @@ use Rattle.tree.specs.Tree.{parent, ancestor}
 use Rattle.tree.proofs.SearchLaws.{least-ext, gather-zero, gather-length, gather-no, gather-yes, gather-ext}
 use Rattle.tree.proofs.SearchLaws.{gather-skip}
 use Rattle.tree.proofs.TreeLaws.{Under, rest-at, size-least, from-parent, under-parent, ancestor-under}
-use Rattle.tree.proofs.TreeLaws.{parent-below, parent-less}
+use Rattle.tree.proofs.TreeLaws.{parent-below, parent-less, under-trans}
 use Rattle.tree.proofs.SoundLaws.{shape-steps, either, either-left, either-right}
 use Rattle.tree.proofs.AxisLaws.{same-test, false-of}
 
@@ -59,16 +59,6 @@ module _ {size level : List ℕ} {n : ℕ} (s : Shape size level n) where
     ]
   ]
 
-  -- and the other way about
-  under-up : (c w p : ℕ) → Under level p w → Under level c p → Under level c w
-  under-up c w p a b = record {
-    after = omega (arith, a .after, b .after);
-    deeper = λ k x y. elim (decLt p k) [
-      | yes q ↦ omega (arith, a .deeper k q y, b .deeper p (b .after) (le-refl p))
-      | no q ↦ b .deeper k x (omega arith)
-    ];
-  }
-
   -- the ancestors of a row are its parent and the parent's ancestors
   pub ancestor-step : (c w p : ℕ) → w < n → parent level w ≡ suc p
       → ancestor level c w ≡ (eqb c p || ancestor level c p)
@@ -81,7 +71,8 @@ module _ {size level : List ℕ} {n : ℕ} (s : Shape size level n) where
       (under-step c w p l e (ancestor-under level n (shape-steps s) c w l .0 h)))
       (λ h. ancestor-under level n (shape-steps s) c w l .1 (⊎-elim
       (λ q. let z : c ≡ p = eqb-true c p q in rw z up)
-      (λ q. under-up c w p up (ancestor-under level n (shape-steps s) c p (omega arith) .0 q))
+      (λ q. under-trans level n (shape-steps s) c p w
+      (ancestor-under level n (shape-steps s) c p (omega arith) .0 q) up)
       (either (eqb c p) _ h)))
 
   -- a row above level 0 has a parent
@@ -127,20 +118,20 @@ module _ {size level : List ℕ} {n : ℕ} (s : Shape size level n) where
   not-own p l =
       false-of (ancestor level p p) (λ e. omega (arith, ancestor-under level n (shape-steps s) p p l .0 e .after))
 
+  -- a root has no ancestor
+  pub root-alone : (w : ℕ) → w < n → at level w ≡ 0 → (c : ℕ) → ancestor level c w ≡ false
+  root-alone w l z c =
+      false-of (ancestor level c w) (λ e.
+      let u = ancestor-under level n (shape-steps s) c w l .0 e in omega (arith, u .deeper w (u .after) (le-refl w)))
+
   -- a row has as many ancestors as its level says
   pub ancestors-count : (w : ℕ) → w < n → length (gather (λ c. ancestor level c w) n) ≡ at level w
   ancestors-count w l = go (at level w) w l refl
     where
       go : (k w : ℕ) → w < n → at level w ≡ k → length (gather (λ c. ancestor level c w) n) ≡ k
       go zero w l e =
-          ap length (gather-skip (λ c. ancestor level c w) 0 n (omega arith) (λ c x y. none c (ancestor level c w) refl)
+          ap length (gather-skip (λ c. ancestor level c w) 0 n (omega arith) (λ c x y. root-alone w l e c)
           ∙ gather-zero (λ c. ancestor level c w))
-        where
-          none : (c : ℕ) (b : Bool) → ancestor level c w ≡ b → b ≡ false
-          none c false q = refl
-          none c true q =
-              let u = ancestor-under level n (shape-steps s) c w l .0 q in
-              absurd (omega (arith, u .deeper w (u .after) (le-refl w)))
       go (suc k) w l e =
           let p = has-parent s w l (omega arith) in
           let b : p .0 < w = parent-below level w (p .0) (p .1) in

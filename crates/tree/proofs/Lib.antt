@@ -1,6 +1,7 @@
 pub mod SearchLaws
 pub mod TreeLaws
 pub mod SoundLaws
+pub mod SubtreeLaws
 pub mod AxisLaws
 pub mod RootLaws
 pub mod LevelLaws

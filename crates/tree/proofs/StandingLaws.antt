@@ -1,7 +1,7 @@
 -- Where a row stands, by its parent: RULES 02, E3. The row is the one asked for, `stands-row`; without a parent it
 -- stands as a root, `stands-root`, with one under it, `stands-under`; and back, `root-stands`, `under-stands`. In rows
--- that make trees the roots are the rows of level 0: `rootless`. Assumes nothing.
-use mathlib.Core.Path.{_≡_, refl, sym, ap, _∙_}
+-- that make trees the roots are the rows of level 0: `root-level`. Assumes nothing.
+use mathlib.Core.Path.{_≡_, refl, ap}
 use mathlib.Core.Logic.{_↔_}
 use mathlib.Core.List.{List}
 use Prim.Native.Nat.{ℕ, zero, suc, _<_}
@@ -12,7 +12,6 @@ use Rattle.tree.specs.Tree.{parent}
 use Rattle.tree.specs.Rules.{Shape}
 use Rattle.tree.specs.Outcome.{standsBy, standing, rowThere}
 use Rattle.tree.specs.declared.Child.{Child}
-use Rattle.tree.specs.declared.Located.{Located}
 use Rattle.tree.specs.declared.Located.the-variants.{Root, Under}
 use Rattle.tree.proofs.TreeLaws.{parent-none}
 use Rattle.tree.proofs.LevelLaws.{has-parent}
@@ -54,9 +53,9 @@ module _ (level : List ℕ) (r : ℕ) where
       go (suc p) h = (cc, cc, cc)
 
 -- a row has no parent exactly if its level is 0
-pub rootless : {size level : List ℕ} {n : ℕ} → Shape size level n → (r : ℕ) → r < n
+pub root-level : {size level : List ℕ} {n : ℕ} → Shape size level n → (r : ℕ) → r < n
     → (parent level r ≡ 0) ↔ (at level r ≡ 0)
-rootless {level = level} s r l = (there, parent-none level r)
+root-level {level = level} s r l = (there, parent-none level r)
   where
     there : parent level r ≡ 0 → at level r ≡ 0
     there e = elim (ℕ-discrete (at level r) 0) [

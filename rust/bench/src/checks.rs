@@ -8,12 +8,12 @@ use lent::{buckets, Columns};
 /// At 4,096 flat rows the check takes at most so many times what plain Rust takes.
 const CHECK_BAR: f64 = 1.3;
 /// Twice the rows take at most so many times the time.
-const GROWTH_BAR: f64 = 2.3;
+pub const GROWTH_BAR: f64 = 2.3;
 
 /// Makes a table of so many rows.
-type Shape = fn(usize) -> Columns;
+pub type Shape = fn(usize) -> Columns;
 
-const SHAPES: [(&str, Shape); 2] = [("flat", flat), ("63 deep", deep)];
+pub const SHAPES: [(&str, Shape); 2] = [("flat", flat), ("63 deep", deep)];
 
 pub fn run(race: &Race) {
     let mut group = Group::new("check, microseconds a call");

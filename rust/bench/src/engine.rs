@@ -28,11 +28,11 @@ macro_rules! seen {
     }};
 }
 
-/// The same of a find: the row and its parent.
+/// The same of a find: the row with its level, which is below 64, and the parent.
 macro_rules! seen_found {
     ($found:expr) => {{
         let found = $found;
-        (found.refusal, found.row, found.parent as usize)
+        (found.refusal, found.row * 64 + found.level, found.parent as usize)
     }};
 }
 

@@ -1,7 +1,8 @@
 //! Finding a key: the row, its level and its parent's row.
 
+use crate::checks::{GROWTH_BAR, SHAPES};
 use crate::race::{Race, Times};
-use crate::report::Group;
+use crate::report::{figure, Group};
 use crate::tables::{deep, farms, flat, plant, wide};
 use lent::Columns;
 
@@ -13,13 +14,12 @@ const ROWS: usize = 4_096;
 pub fn run(race: &Race) {
     let mut group = Group::new("find, microseconds a call");
     for rows in [64, 512] {
-        for (name, table) in [("flat", flat(rows)), ("63 deep", deep(rows))] {
-            let times = time(race, &table, table.key[rows - 1]);
-            group.line(&format!("{rows} rows, {name}, last row"), times);
+        for (name, shape) in SHAPES {
+            group.line(&format!("{rows} rows, {name}, last row"), last(race, &shape(rows)));
         }
     }
-    // The parent of the last row stands 4,095 rows before it, 20 rows, one row, 65 rows; a root has
-    // none.
+    // The parent of the last row stands 4,095 rows before it, some rows, one row, 65 rows; a root
+    // has none.
     let tables = [
         ("flat", flat(ROWS)),
         ("plant", plant(ROWS)),
@@ -37,6 +37,17 @@ pub fn run(race: &Race) {
         }
     }
     group.mean();
+    println!();
+    println!("growth of the library's find of the last row");
+    for (name, shape) in SHAPES {
+        let [half, whole] = [ROWS / 2, ROWS].map(|rows| last(race, &shape(rows)).ours);
+        figure(&format!("4,096 over 2,048 rows, {name}"), whole / half, GROWTH_BAR);
+    }
+}
+
+/// Finds the key of the last row.
+fn last(race: &Race, table: &Columns) -> Times {
+    time(race, table, table.key[table.key.len() - 1])
 }
 
 fn time(race: &Race, table: &Columns, key_wanted: usize) -> Times {

@@ -2,8 +2,8 @@
 //! words of its rules.
 //!
 //! It links the rows to trees of nodes: each has its parent, for which all earlier rows are looked
-//! at, and the list of its children. A step walks along these links from every context, as XPath's data
-//! model tells it; an edit changes them, as XQuery Update tells it. Pairs are carried by looking
+//! at, and the list of its children. A step walks along these links from every context, as XPath's
+//! data model tells it; an edit changes them, as XQuery Update tells it. Pairs are carried by looking
 //! their rows up in a list of all rows. It shares no method with the library it is compared with,
 //! and prefers what can be read at once to what is fast.
 

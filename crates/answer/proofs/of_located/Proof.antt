@@ -1,6 +1,6 @@
 -- `answer::of_located` meets its contract: a root, or a row whose parent's row is small enough for a signed number.
 -- Assumes nothing.
-use mathlib.Core.Path.{_≡_, ap, subst, _∙_}
+use mathlib.Core.Path.{ap, subst}
 use Prim.Native.Nat.{_≤_}
 use native.Mathlib.Omega.{arith}
 use mir.Syntax.{w64}

@@ -29,7 +29,7 @@ at-row c = c .before .before .before .before .before .before .before .before .be
 
 -- the check is that of the row found
 checked : (c : tie.After-check-piece) → c .check-piece .result
-    ≡ insertCheck (lent (at-row (at-check c))) (rowThere (at-row (at-check c) .args .found))
+    ≡ insertCheck (lent (at-row (at-check c))) (rowThere (at-row (at-check c) .args .located))
     (piece (at-row (at-check c)))
 checked c =
     let s = at-row (at-check c) in

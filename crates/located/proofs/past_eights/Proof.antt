@@ -1,6 +1,6 @@
 -- `located::past_eights` meets its contract: from row i on, up to the row asked for, no row has the level. Assumes
 -- nothing.
-use Prim.Native.Nat.{ℕ, _≤_, _<_, _-_}
+use Prim.Native.Nat.{ℕ, _≤_, _<_}
 use mathlib.Core.Path.{_≡_, sym, _∙_}
 use mathlib.Core.Logic.{⊎-elim}
 use mathlib.Core.Bool.{true≢false}

@@ -25,7 +25,7 @@ at-row c = c .before .before .before .before .before .before .before .before .be
 
 -- what the piece that fits tells of the columns
 fits : (c : tie.After-row-there) → Room (lent (at-row c)) (c .row-there .result) (piece (at-row c))
-fits c = room (lent (at-row c)) (at-row c .args .found) (piece (at-row c)) (at-row c .pre) _ (c .row-there .ensures)
+fits c = room (lent (at-row c)) (at-row c .args .located) (piece (at-row c)) (at-row c .pre) _ (c .row-there .ensures)
 
 -- the same, from each call on the way
 abbrev at-raise : tie.After-raise → tie.After-row-there
@@ -132,7 +132,7 @@ returns c =
     let high = key .before .before .before .before in
     let row = at-raise high in
     let s = at-row row in
-    insert-made (lent s) (s .args .found) (piece s) (s .pre) _ (row .row-there .ensures) (high .raise .ensures)
+    insert-made (lent s) (s .args .located) (piece s) (s .pre) _ (row .row-there .ensures) (high .raise .ensures)
     (key .open-column .ensures) (size .open-column2 .ensures) (level .open-column-raised .ensures)
     (kind .open-column3 .ensures) (name .open-column4 .ensures) (c .after-insertion .ensures)
 

@@ -12,23 +12,23 @@ lent s =
     tableOf (s .args .key .now) (s .args .size .now) (s .args .level .now) (s .args .kind .now) (s .args .name .now)
     (s .args .count)
 
-enum-known-found : tie.Need-enum-known-found
-enum-known-found c = search needs
+enum-known-located : tie.Need-enum-known-located
+enum-known-located c = search needs
 
 delete-root-requires : tie.Need-delete-root-requires
 delete-root-requires c κs =
     let told = c .before .before .before .before .before .before in
     let s = told .before .before .before .before .before .before .before in
-    subst (RowFound (lent s)) (told .found .given .1) (s .pre)
+    subst (RowFound (lent s)) (told .located .given .1) (s .pre)
 
-enum-known-found-2 : tie.Need-enum-known-found-2
-enum-known-found-2 c = search needs
+enum-known-located-2 : tie.Need-enum-known-located-2
+enum-known-located-2 c = search needs
 
 delete-child-requires : tie.Need-delete-child-requires
 delete-child-requires c κs =
     let told = c .before .before .before .before .before .before in
     let s = told .before .before .before .before .before .before .before in
-    subst (RowFound (lent s)) (told .found2 .given .1) (s .pre)
+    subst (RowFound (lent s)) (told .located2 .given .1) (s .pre)
 
 same-length : tie.Need-same-length
 same-length c = search needs
@@ -48,7 +48,8 @@ same-length-5 c = search needs
 returns : tie.Need-returns
 returns c =
     let root = c .before .before .before .before .before .before .before .before .before .before in
-    rw (root .before .before .before .before .before .before .before .found .given .1) (root .delete-root .ensures)
+    let told = root .before .before .before .before .before .before .before in
+    rw (told .located .given .1) (root .delete-root .ensures)
 
 same-length-6 : tie.Need-same-length-6
 same-length-6 c = search needs
@@ -68,15 +69,16 @@ same-length-10 c = search needs
 returns-2 : tie.Need-returns-2
 returns-2 c =
     let child = c .before .before .before .before .before .before .before .before .before .before in
-    rw (child .before .before .before .before .before .before .before .found2 .given .1) (child .delete-child .ensures)
+    let told = child .before .before .before .before .before .before .before in
+    rw (told .located2 .given .1) (child .delete-child .ensures)
 
 pub delete-at-spec : {M : Type 1} → statement M
 delete-at-spec =
     tie.close
     (tie.spec
-    enum-known-found
+    enum-known-located
     delete-root-requires
-    enum-known-found-2
+    enum-known-located-2
     delete-child-requires
     same-length
     same-length-2
