@@ -1,5 +1,5 @@
 -- Two answers that the contract of an edit allows are equal, and so are the columns that they leave: `leaves-only` for
--- the edits at a known row, then `insert-only`, `delete-only`, `rename-only`. Assumes nothing.
+-- the edits at a row that was found, then `insert-only`, `delete-only`, `rename-only`. Assumes nothing.
 use mathlib.Core.Path.{_≡_, sym, _∙_}
 use mathlib.Core.List.{List}
 use Prim.Native.Nat.{ℕ}
