@@ -6,7 +6,7 @@ use crate::report::{figure, Group};
 use crate::tables::{deep, farms, flat, plant, wide};
 use lent::Columns;
 
-/// At 4,096 rows a find takes at most so many times what plain Rust takes.
+/// A find takes at most so many times what plain Rust takes.
 const BAR: f64 = 1.2;
 
 const ROWS: usize = 4_096;
@@ -15,7 +15,8 @@ pub fn run(race: &Race) {
     let mut group = Group::new("find, microseconds a call");
     for rows in [64, 512] {
         for (name, shape) in SHAPES {
-            group.line(&format!("{rows} rows, {name}, last row"), last(race, &shape(rows)));
+            let times = last(race, &shape(rows));
+            group.line_with_bar(&format!("{rows} rows, {name}, last row"), times, BAR);
         }
     }
     // The parent of the last row stands 4,095 rows before it, some rows, one row, 65 rows; a root
