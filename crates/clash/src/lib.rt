@@ -4,22 +4,20 @@ ghost use Prim.Native.Nat.{_≤_};
 ghost use lib.ListN.{length};
 ghost use Rattle.keys.specs.Chain.{ChainRoom, Chained};
 ghost use Rattle.clash.specs.FirstClash.{firstClash};
-use keys::bucket;
 use keys::fresh;
+use keys::link;
 use keys::row_of;
 
 // Chains the first n rows, without a test of their keys.
-fn chain(key: &[usize], n: usize, heads: &mut [u16], next: &mut [u16], buckets: usize)
+fn chain(key: &[usize], n: usize, heads: &mut [u16], next: &mut [u16], shift: usize)
     requires { ⌜ n ≤ length (now key) ⌝ }
-    requires { ⌜ ChainRoom (now heads) (now next) buckets n ⌝ }
-    requires { ⌜ Chained buckets (now key) (now heads) (now next) 0 ⌝ }
-    ensures { λ _. ⌜ Chained buckets (now (key .entry)) (now (heads .exit)) (now (next .exit)) n ⌝ }
+    requires { ⌜ ChainRoom (now heads) (now next) shift n ⌝ }
+    requires { ⌜ Chained shift (now key) (now heads) (now next) 0 ⌝ }
+    ensures { λ _. ⌜ Chained shift (now (key .entry)) (now (heads .exit)) (now (next .exit)) n ⌝ }
 {
     let mut i = 0;
     while i < n {
-        let own = bucket(key[i], buckets);
-        next[i] = heads[own];
-        heads[own] = (i + 1) as u16;
+        link(key, i, heads, next, shift);
         i += 1;
     }
 }
@@ -48,18 +46,18 @@ fn clash_in(
     m: usize,
     heads: &mut [u16],
     next: &mut [u16],
-    buckets: usize,
+    shift: usize,
 ) -> usize
     requires { ⌜ n ≤ length (now key) ⌝ }
     requires { ⌜ m ≤ length (now piece) ⌝ }
-    requires { ⌜ ChainRoom (now heads) (now next) buckets n ⌝ }
-    requires { ⌜ Chained buckets (now key) (now heads) (now next) 0 ⌝ }
+    requires { ⌜ ChainRoom (now heads) (now next) shift n ⌝ }
+    requires { ⌜ Chained shift (now key) (now heads) (now next) 0 ⌝ }
     ensures { λ r. ⌜ r ≡ firstClash (now (key .entry)) n (now (piece .entry)) m ⌝ }
 {
-    chain(key, n, heads, next, buckets);
+    chain(key, n, heads, next, shift);
     let mut i = 0;
     while i < m {
-        if !fresh(key, n, piece[i], heads, next, buckets) {
+        if !fresh(key, n, piece[i], heads, next, shift) {
             return i;
         }
         i += 1;
@@ -77,16 +75,16 @@ fn clash_by_chains(key: &[usize], n: usize, piece: &[usize], m: usize) -> usize
     if n <= 64 {
         let mut heads = [0u16; 256];
         let mut next = [0u16; 64];
-        return clash_in(key, n, piece, m, &mut heads, &mut next, 241);
+        return clash_in(key, n, piece, m, &mut heads, &mut next, 24);
     }
     if n <= 512 {
         let mut heads = [0u16; 2048];
         let mut next = [0u16; 512];
-        return clash_in(key, n, piece, m, &mut heads, &mut next, 2029);
+        return clash_in(key, n, piece, m, &mut heads, &mut next, 21);
     }
     let mut heads = [0u16; 16384];
     let mut next = [0u16; 4096];
-    clash_in(key, n, piece, m, &mut heads, &mut next, 16381)
+    clash_in(key, n, piece, m, &mut heads, &mut next, 18)
 }
 
 // The same by the way that is faster for the piece.

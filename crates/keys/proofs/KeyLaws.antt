@@ -1,103 +1,110 @@
 -- The walk along a chain finds a repeated key: `walk-start`, `walk-step`, `walk-less`, and its ends `fresh-true`,
--- `fresh-false`. Chains start empty and grow by a row: `cleared`, `chained-more`. These hold for any number of buckets.
+-- `fresh-false`. Chains start empty and grow by a row: `cleared`, `chained-more`. These hold however many buckets there are.
 -- The test of a key: `key-zero`, `key-again`, `key-good`. Assumes nothing.
-use mathlib.Core.Path.{_≡_, refl, sym, ap, _∙_}
+use mathlib.Core.Path.{_≡_, refl, sym, ap, subst, _∙_}
 use mathlib.Core.Logic.{_⊎_, inl, inr}
 use mathlib.Core.Bool.{Bool, true, false, not}
 use mathlib.Core.List.{List}
-use Prim.Native.Nat.{ℕ, suc, _+_, _-_, _<_, _≤_}
-use native.Mathlib.Nat.{le-refl, le-of-suc-le-suc, eq-or-lt-of-le, not-suc-le-zero, mod-lt}
+use Prim.Native.Nat.{ℕ, suc, _+_, _-_, _^_, _<_, _≤_}
+use native.Mathlib.Nat.{le-refl, le-of-suc-le-suc, eq-or-lt-of-le, not-suc-le-zero, lt-of-lt-of-le, mod-lt}
 use native.Mathlib.Numerals.{add-one}
 use native.Mathlib.Omega.{arith}
 use borrow.Author.Tests.{eqb-true, eqb-false, eq-eqb, ne-eqb, ltb-true, ltb-false}
-use lib.Dec.{eqb, ltb}
+use lib.Dec.{eqb, ltb, lit<}
 use lib.ListN.{length, getD, set, replicate, getD-replicate, length-replicate}
+use lib.Pow.{shr-lt}
 use lib.Seq.{getD-set-same, getD-set-other}
 use Rattle.tree.specs.Search.{least, nearest}
-use Rattle.tree.specs.Table.{at}
+use Rattle.tree.specs.Table.{mostRows, at}
 use Rattle.tree.specs.Sound.{rowOf, keyOk}
 use Rattle.tree.proofs.SearchLaws.{least-none, least-hit-le, nearest-le, nearest-skip, nearest-in}
-use Rattle.keys.specs.Chain.{bucketOf, lastIn, ChainRoom, Chained}
+use Rattle.keys.specs.Chain.{spreadOf, bucketsOf, bucketOf, lastIn, ChainRoom, Chained}
 
-module _ (buckets : ℕ) where
-  pub bucket-lt : (x : ℕ) → 0 < buckets → bucketOf buckets x < buckets
+pub spread-lt : (x : ℕ) → spreadOf x < 2 ^ 32
+unfolding spreadOf
+spread-lt x = mod-lt _ (lit< tt)
+
+module _ (shift : ℕ) where
+  pub bucket-lt : (x : ℕ) → shift ≤ 32 → bucketOf shift x < bucketsOf shift
   unfolding bucketOf
-  bucket-lt x p = mod-lt x p
+  bucket-lt x p =
+      let whole : 32 ≡ 32 - shift + shift = omega arith in
+      shr-lt (32 - shift) shift (subst (λ (k : ℕ). spreadOf x < 2 ^ k) whole (spread-lt x))
 
   -- a walk along a chain stands at r: no row from r on, below i, has the key x, and the row before r is in x's bucket
   pub record Walk (key : List ℕ) (x i r : ℕ) : Type 0 where
     pub within : r ≤ i
     pub passed : (k : ℕ) → r ≤ k → k < i → at key k ≡ x → ⊥
-    pub chained : (j : ℕ) → r ≡ suc j → bucketOf buckets (at key j) ≡ bucketOf buckets x
+    pub chained : (j : ℕ) → r ≡ suc j → bucketOf shift (at key j) ≡ bucketOf shift x
 
-  last-le : (key : List ℕ) (b m : ℕ) → lastIn buckets key b m ≤ m
+  last-le : (key : List ℕ) (b m : ℕ) → lastIn shift key b m ≤ m
   unfolding lastIn
   last-le key b m = nearest-le _ m
 
   -- rows between the last one in the bucket and m are in another bucket
-  last-skip : (key : List ℕ) (b m k : ℕ) → lastIn buckets key b m ≤ k → k < m → bucketOf buckets (at key k) ≡ b → ⊥
+  last-skip : (key : List ℕ) (b m k : ℕ) → lastIn shift key b m ≤ k → k < m → bucketOf shift (at key k) ≡ b → ⊥
   unfolding lastIn
-  last-skip key b m k l h = eqb-false _ _ (nearest-skip (λ j. eqb (bucketOf buckets (at key j)) b) m k l h)
+  last-skip key b m k l h = eqb-false _ _ (nearest-skip (λ j. eqb (bucketOf shift (at key j)) b) m k l h)
 
   -- the last row in the bucket is in the bucket
-  last-in : (key : List ℕ) (b m j : ℕ) → lastIn buckets key b m ≡ suc j → bucketOf buckets (at key j) ≡ b
+  last-in : (key : List ℕ) (b m j : ℕ) → lastIn shift key b m ≡ suc j → bucketOf shift (at key j) ≡ b
   unfolding lastIn
-  last-in key b m j e = eqb-true _ _ (nearest-in (λ j. eqb (bucketOf buckets (at key j)) b) m j e)
+  last-in key b m j e = eqb-true _ _ (nearest-in (λ j. eqb (bucketOf shift (at key j)) b) m j e)
 
   -- from rows m on, below i, none has x: so the walk may stand at the last row below m in x's bucket
   pub walk : (key : List ℕ) (x i m : ℕ) → m ≤ i → ((k : ℕ) → m ≤ k → k < i → at key k ≡ x → ⊥)
-      → Walk key x i (lastIn buckets key (bucketOf buckets x) m)
+      → Walk key x i (lastIn shift key (bucketOf shift x) m)
   walk key x i m l h = record {
-    within = omega (arith, last-le key (bucketOf buckets x) m);
+    within = omega (arith, last-le key (bucketOf shift x) m);
     passed = λ k u v e. go k u v e (ltb k m) refl;
-    chained = λ j e. last-in key (bucketOf buckets x) m j e;
+    chained = λ j e. last-in key (bucketOf shift x) m j e;
   }
     where
-      go : (k : ℕ) → lastIn buckets key (bucketOf buckets x) m ≤ k → k < i → at key k ≡ x → (t : Bool) → ltb k m ≡ t
+      go : (k : ℕ) → lastIn shift key (bucketOf shift x) m ≤ k → k < i → at key k ≡ x → (t : Bool) → ltb k m ≡ t
           → ⊥
-      go k u v e true w = last-skip key (bucketOf buckets x) m k u (ltb-true _ _ w) (ap (bucketOf buckets) e)
+      go k u v e true w = last-skip key (bucketOf shift x) m k u (ltb-true _ _ w) (ap (bucketOf shift) e)
       go k u v e false w = h k (ltb-false _ _ w) v e
 
   -- one more row, its bucket's last row chained behind it
-  pub chained-more : (key heads next : List ℕ) (i : ℕ) → 0 < buckets → buckets ≤ length heads
-      → i < length next → Chained buckets key heads next i
-      → Chained buckets key (set heads (bucketOf buckets (at key i)) (i + 1))
-      (set next i (getD heads (bucketOf buckets (at key i)) 0)) (i + 1)
+  pub chained-more : (key heads next : List ℕ) (i : ℕ) → shift ≤ 32 → bucketsOf shift ≤ length heads
+      → i < length next → Chained shift key heads next i
+      → Chained shift key (set heads (bucketOf shift (at key i)) (i + 1))
+      (set next i (getD heads (bucketOf shift (at key i)) 0)) (i + 1)
   unfolding lastIn nearest
   chained-more key heads next i p l m h = record {
-    heads-at = λ b k. rw add-one (head b k (eqb (bucketOf buckets (at key i)) b) refl);
+    heads-at = λ b k. rw add-one (head b k (eqb (bucketOf shift (at key i)) b) refl);
     next-at = λ j k. old j (eq-or-lt-of-le (le-of-suc-le-suc (rw add-one at k)));
   }
     where
-      head : (b : ℕ) → b < buckets → (t : Bool) → eqb (bucketOf buckets (at key i)) b ≡ t
-          → getD (set heads (bucketOf buckets (at key i)) (suc i)) b 0 ≡ lastIn buckets key b (suc i)
+      head : (b : ℕ) → b < bucketsOf shift → (t : Bool) → eqb (bucketOf shift (at key i)) b ≡ t
+          → getD (set heads (bucketOf shift (at key i)) (suc i)) b 0 ≡ lastIn shift key b (suc i)
       head b k true q =
-          let e : bucketOf buckets (at key i) ≡ b = eqb-true _ _ q in
+          let e : bucketOf shift (at key i) ≡ b = eqb-true _ _ q in
           rw (q, e) (getD-set-same heads b (suc i) 0 (omega arith))
       head b k false q =
-          rw q (getD-set-other heads (bucketOf buckets (at key i)) b (suc i) 0 (λ e. eqb-false _ _ q (sym e))
+          rw q (getD-set-other heads (bucketOf shift (at key i)) b (suc i) 0 (λ e. eqb-false _ _ q (sym e))
           ∙ h .heads-at b k)
 
       old : (j : ℕ) → (j ≡ i) ⊎ (j < i)
-          → getD (set next i (getD heads (bucketOf buckets (at key i)) 0)) j 0
-          ≡ lastIn buckets key (bucketOf buckets (at key j)) j
+          → getD (set next i (getD heads (bucketOf shift (at key i)) 0)) j 0
+          ≡ lastIn shift key (bucketOf shift (at key j)) j
       old j (inl e) = rw e (getD-set-same next i _ 0 m ∙ h .heads-at _ (bucket-lt (at key i) p))
       old j (inr k) = getD-set-other next i j _ 0 (λ e. absurd (omega arith)) ∙ h .next-at j k
 
   -- columns of zeros have room for as many buckets and rows as they are long, and no row is chained in them
-  pub cleared : (wide long n : ℕ) (key : List ℕ) → 0 < buckets → buckets ≤ wide → n ≤ long → n ≤ 4096
-      → ChainRoom (replicate wide 0) (replicate long 0) buckets n
-      × Chained buckets key (replicate wide 0) (replicate long 0) 0
+  pub cleared : (wide long n : ℕ) (key : List ℕ) → shift ≤ 32 → bucketsOf shift ≤ wide → n ≤ long → n ≤ mostRows
+      → ChainRoom (replicate wide 0) (replicate long 0) shift n
+      × Chained shift key (replicate wide 0) (replicate long 0) 0
   unfolding lastIn nearest
   cleared wide long n key p q l s = (
     record {
-      some = p;
+      low = p;
       heads-long = simp length-replicate q;
       next-long = simp length-replicate l;
       small = s;
     },
     record {
-      heads-at = λ b k. getD-replicate wide b 0 0 (omega arith);
+      heads-at = λ b k. getD-replicate wide b 0 0 (lt-of-lt-of-le k q);
       next-at = λ j k. absurd (not-suc-le-zero k);
     },
   )
@@ -106,23 +113,23 @@ module _ (buckets : ℕ) where
   unfolding rowOf
   fresh-true key x i r z w = eq-eqb _ _ (least-none _ i (λ k l. ne-eqb _ _ (w .passed k (omega arith) l)))
 
-  pub walk-start : (key heads next : List ℕ) (i x b : ℕ) → 0 < buckets → Chained buckets key heads next i
-      → b ≡ bucketOf buckets x → Walk key x i (at heads b)
+  pub walk-start : (key heads next : List ℕ) (i x b : ℕ) → shift ≤ 32 → Chained shift key heads next i
+      → b ≡ bucketOf shift x → Walk key x i (at heads b)
   walk-start key heads next i x b p h e =
-      rw (e, h .heads-at (bucketOf buckets x) (bucket-lt x p))
+      rw (e, h .heads-at (bucketOf shift x) (bucket-lt x p))
       (walk key x i i (le-refl i) (λ k l m q. absurd (omega arith)))
 
   -- the row before r has another key: on along the chain
-  module _ (key heads next : List ℕ) (i x r : ℕ) (h : Chained buckets key heads next i) (w : Walk key x i r)
+  module _ (key heads next : List ℕ) (i x r : ℕ) (h : Chained shift key heads next i) (w : Walk key x i r)
       (p : 0 < r) where
-    next-is : at next (r - 1) ≡ lastIn buckets key (bucketOf buckets x) (r - 1)
+    next-is : at next (r - 1) ≡ lastIn shift key (bucketOf shift x) (r - 1)
     next-is =
         let l = w .within in
         h .next-at (r - 1) (omega arith)
-        ∙ ap (λ (b : ℕ). lastIn buckets key b (r - 1)) (w .chained (r - 1) (omega arith))
+        ∙ ap (λ (b : ℕ). lastIn shift key b (r - 1)) (w .chained (r - 1) (omega arith))
 
     pub walk-less : at next (r - 1) < r
-    walk-less = rw next-is (omega (arith, last-le key (bucketOf buckets x) (r - 1)))
+    walk-less = rw next-is (omega (arith, last-le key (bucketOf shift x) (r - 1)))
 
     pub walk-step : (at key (r - 1) ≡ x → ⊥) → Walk key x i (at next (r - 1))
     walk-step ne =
@@ -140,16 +147,16 @@ fresh-false key x i j l e =
     ne-eqb (least (λ k. eqb (at key k) x) i) i (λ p. absurd (omega arith))
 
 -- the three ends of the test of a key
-pub key-zero : (key : List ℕ) (i : ℕ) → at key i ≡ 0 → not (keyOk key i) ≡ true
+pub key-zero : (key : List ℕ) (i : ℕ) → at key i ≡ 0 → keyOk key i ≡ false
 unfolding keyOk
 key-zero key i e = rw e
 
 pub key-again : (key : List ℕ) (i : ℕ) → (at key i ≡ 0 → ⊥) → eqb (rowOf key i (at key i)) i ≡ false
-    → not (keyOk key i) ≡ true
+    → keyOk key i ≡ false
 unfolding keyOk
 key-again key i n e = simp (ne-eqb _ _ n, e)
 
 pub key-good : (key : List ℕ) (i : ℕ) → (at key i ≡ 0 → ⊥) → eqb (rowOf key i (at key i)) i ≡ true
-    → not (keyOk key i) ≡ false
+    → keyOk key i ≡ true
 unfolding keyOk
 key-good key i n e = simp (ne-eqb _ _ n, e)

@@ -2,14 +2,14 @@
 // for none: `heads` has for each bucket a link to its last row, `next` for each row a link to the row before it in its
 // bucket.
 ghost use mathlib.Core.Path.{_≡_};
-ghost use mathlib.Core.Bool.{false};
-ghost use Prim.Native.Nat.{ℕ, _<_, _≤_};
+ghost use mathlib.Core.Bool.{true, false};
+ghost use Prim.Native.Nat.{ℕ, _+_, _<_, _≤_};
 ghost use lib.ListN.{length};
 ghost use lib.Dec.{eqb};
 ghost use Rattle.tree.specs.Table.{at};
-ghost use Rattle.tree.specs.Sound.{rowOf};
+ghost use Rattle.tree.specs.Sound.{rowOf, keyOk};
 ghost use Rattle.keys.specs.FirstKey.{firstKey};
-ghost use Rattle.keys.specs.Chain.{bucketOf, ChainRoom, Chained};
+ghost use Rattle.keys.specs.Chain.{spreadOf, bucketsOf, bucketOf, ChainRoom, Chained};
 use basics::one_of;
 
 // A row before which none has the key x, and from which on each of the first n rows has to be looked at: eight rows are
@@ -43,22 +43,29 @@ pub fn row_of(key: &[usize], n: usize, x: usize) -> usize
     k
 }
 
-// The bucket of a key. The number of buckets is known wherever this is inlined, so no division is left.
-pub fn bucket(x: usize, buckets: usize) -> usize
-    requires { ⌜ 0 < buckets ⌝ }
-    ensures { λ r. ⌜ (r ≡ bucketOf buckets x) × (r < buckets) ⌝ }
+// A number below 2^32 for a key, from both its halves.
+fn spread(x: usize) -> usize
+    ensures { λ r. ⌜ r ≡ spreadOf x ⌝ }
 {
-    x % buckets
+    ((x % 4294967296) * 1640531527 + (x / 4294967296) * 461845907) % 4294967296
+}
+
+// The bucket of a key.
+fn bucket(x: usize, shift: usize) -> usize
+    requires { ⌜ shift ≤ 32 ⌝ }
+    ensures { λ r. ⌜ (r ≡ bucketOf shift x) × (r < bucketsOf shift) ⌝ }
+{
+    spread(x) >> shift
 }
 
 // Whether no row below i has the key x: a walk along the chain of x's bucket.
-pub fn fresh(key: &[usize], i: usize, x: usize, heads: &[u16], next: &[u16], buckets: usize) -> bool
+pub fn fresh(key: &[usize], i: usize, x: usize, heads: &[u16], next: &[u16], shift: usize) -> bool
     requires { ⌜ i ≤ length (now key) ⌝ }
-    requires { ⌜ ChainRoom (now heads) (now next) buckets i ⌝ }
-    requires { ⌜ Chained buckets (now key) (now heads) (now next) i ⌝ }
+    requires { ⌜ ChainRoom (now heads) (now next) shift i ⌝ }
+    requires { ⌜ Chained shift (now key) (now heads) (now next) i ⌝ }
     ensures { λ r. ⌜ r ≡ eqb (rowOf (now (key .entry)) i x) i ⌝ }
 {
-    let b = bucket(x, buckets);
+    let b = bucket(x, shift);
     let mut r = heads[b] as usize;
     while 0 < r {
         let j = r - 1;
@@ -70,26 +77,50 @@ pub fn fresh(key: &[usize], i: usize, x: usize, heads: &[u16], next: &[u16], buc
     true
 }
 
-// The least of the first n rows whose key is 0 or that of an earlier row, or n. No row is chained at first; the rows
-// before the answer are at the end.
-fn first_in(key: &[usize], n: usize, heads: &mut [u16], next: &mut [u16], buckets: usize) -> usize
+// Chains row i behind the last row of its key's bucket.
+pub fn link(key: &[usize], i: usize, heads: &mut [u16], next: &mut [u16], shift: usize)
+    requires { ⌜ i < length (now key) ⌝ }
+    requires { ⌜ ChainRoom (now heads) (now next) shift (i + 1) ⌝ }
+    requires { ⌜ Chained shift (now key) (now heads) (now next) i ⌝ }
+    ensures { λ _. ⌜ Chained shift (now (key .entry)) (now (heads .exit)) (now (next .exit)) (i + 1) ⌝ }
+{
+    let b = bucket(key[i], shift);
+    next[i] = heads[b];
+    heads[b] = (i + 1) as u16;
+}
+
+// Whether the key of row i is good: neither 0 nor that of an earlier row. Then the row is chained too.
+pub fn enter(key: &[usize], i: usize, heads: &mut [u16], next: &mut [u16], shift: usize) -> bool
+    requires { ⌜ i < length (now key) ⌝ }
+    requires { ⌜ ChainRoom (now heads) (now next) shift (i + 1) ⌝ }
+    requires { ⌜ Chained shift (now key) (now heads) (now next) i ⌝ }
+    ensures { λ r. ⌜ r ≡ keyOk (now (key .entry)) i ⌝ }
+    ensures { λ r. ⌜ (r ≡ true → Chained shift (now (key .entry)) (now (heads .exit)) (now (next .exit)) (i + 1)) ⌝ }
+{
+    let x = key[i];
+    if x == 0 {
+        return false;
+    }
+    if !fresh(key, i, x, heads, next, shift) {
+        return false;
+    }
+    link(key, i, heads, next, shift);
+    true
+}
+
+// The least of the first n rows whose key is not good, or n. No row is chained at first; the rows before the answer are
+// at the end.
+fn first_in(key: &[usize], n: usize, heads: &mut [u16], next: &mut [u16], shift: usize) -> usize
     requires { ⌜ n ≤ length (now key) ⌝ }
-    requires { ⌜ ChainRoom (now heads) (now next) buckets n ⌝ }
-    requires { ⌜ Chained buckets (now key) (now heads) (now next) 0 ⌝ }
+    requires { ⌜ ChainRoom (now heads) (now next) shift n ⌝ }
+    requires { ⌜ Chained shift (now key) (now heads) (now next) 0 ⌝ }
     ensures { λ r. ⌜ r ≡ firstKey (now (key .entry)) n ⌝ }
 {
     let mut i = 0;
     while i < n {
-        let x = key[i];
-        if x == 0 {
+        if !enter(key, i, heads, next, shift) {
             return i;
         }
-        if !fresh(key, i, x, heads, next, buckets) {
-            return i;
-        }
-        let b = bucket(x, buckets);
-        next[i] = heads[b];
-        heads[b] = (i + 1) as u16;
         i += 1;
     }
     i
@@ -104,14 +135,14 @@ pub fn first_key(key: &[usize], n: usize) -> usize
     if n <= 64 {
         let mut heads = [0u16; 256];
         let mut next = [0u16; 64];
-        return first_in(key, n, &mut heads, &mut next, 241);
+        return first_in(key, n, &mut heads, &mut next, 24);
     }
     if n <= 512 {
         let mut heads = [0u16; 2048];
         let mut next = [0u16; 512];
-        return first_in(key, n, &mut heads, &mut next, 2029);
+        return first_in(key, n, &mut heads, &mut next, 21);
     }
     let mut heads = [0u16; 16384];
     let mut next = [0u16; 4096];
-    first_in(key, n, &mut heads, &mut next, 16381)
+    first_in(key, n, &mut heads, &mut next, 18)
 }

@@ -1,27 +1,26 @@
--- One pass over the levels, with the rows that are still open remembered by level: `followed-root` at its start,
+-- One pass over the levels, with the rows that are still open remembered by level: `followed-start` at its start,
 -- `followed-more` for a row more, `followed-all` at its end. A row is unfinished while every row after it is deeper.
 -- Assumes nothing.
-use mathlib.Core.Path.{_≡_, ap, _∙_}
+use mathlib.Core.Path.{_≡_, refl, ap, _∙_}
 use mathlib.Core.Logic.{_⊎_, inl, inr, ⊎-elim}
 use mathlib.Core.Bool.{true, false, not, _&&_}
 use mathlib.Core.List.{List}
 use Prim.Native.Nat.{ℕ, _+_, _-_, _<_, _≤_}
-use native.Mathlib.Nat.{le-refl, zero-add, le-of-suc-le-suc, eq-or-lt-of-le}
+use native.Mathlib.Nat.{le-refl, le-of-suc-le-suc, eq-or-lt-of-le, not-suc-le-zero}
 use native.Mathlib.Numerals.{add-one}
 use native.Mathlib.Omega.{arith}
 use native.Mathlib.Decide.{decLt}
-use borrow.Author.Tests.{leb-true, eqb-true, eq-eqb, lt-leb, le-leb}
-use lib.Dec.{leb, eqb}
+use borrow.Author.Tests.{leb-true, ltb-true, eq-eqb, lt-leb, le-leb}
+use lib.Dec.{leb, ltb}
 use lib.ListN.{length, set, length-set}
 use lib.Seq.{getD-set-same, getD-set-other}
 use Rattle.tree.specs.Table.{Table, at}
-use Rattle.tree.specs.Sound.{sizeOf, sizeOk, levelOk, kindOk, nameOk, besideKeyOk}
+use Rattle.tree.specs.Sound.{sizeOf, sizeOk, levelOk, kindOk, nameOk, keyOk, besideKeyOk, rowOk, firstBad}
 use Rattle.tree.specs.Rules.{InUse}
 use Rattle.tree.proofs.SearchLaws.{least-none, least-at}
 use Rattle.tree.proofs.TreeLaws.{rest, size-least, rest-at}
 use Rattle.tree.proofs.SoundLaws.{both, both-of, level-back}
-use Rattle.rows.specs.FirstBad.{firstBadBesideKey}
-use Rattle.rows.specs.OnePass.{rowFits, rootFits, EndAt}
+use Rattle.rows.specs.OnePass.{fitsIn}
 
 -- ── a row's size is known once a row after it is no deeper, or the rows end ──
 module _ (level : List ℕ) (n j : ℕ) (l : n ≤ length level) (m : j < n) where
@@ -45,132 +44,165 @@ module _ (level : List ℕ) (n j : ℕ) (l : n ≤ length level) (m : j < n) whe
       size-least level n j l m
       ∙ least-none _ (n - (j + 1)) (λ k q. deeper-at k q (deep (j + 1 + k) (omega arith) (omega arith)))
 
--- ── the rows below i: each has its size, or is unfinished and stands in ends ──
-record Unfinished (size level ends : List ℕ) (i top j : ℕ) : Type 0 where
-  deep : (k : ℕ) → j < k → k < i → at level j < at level k
-  under : at level j ≤ top
-  stands : at ends (at level j) ≡ j + at size j + 1
+-- ── where a row may stand ──
+record Standing (ends : List ℕ) (most i own held : ℕ) : Type 0 where
+  near : own ≤ most
+  high : own ≤ 63
+  inside : held < at ends own - i
+  after : at ends (own + 1) ≤ i
 
--- every row below i keeps the rules of level, kind and name
+standing : (ends : List ℕ) (most i own held : ℕ) → fitsIn ends most i own held ≡ true
+    → Standing ends most i own held
+unfolding fitsIn
+standing ends most i own held e =
+    let a = both (leb own most && leb own 63) _ e in
+    let b = both (leb own most) _ (a .0) in
+    let d = both (ltb held (at ends own - i)) _ (a .1) in
+    record {
+      near = leb-true _ _ (b .0);
+      high = leb-true _ _ (b .1);
+      inside = ltb-true _ _ (d .0);
+      after = leb-true _ _ (d .1);
+    }
+
+-- ── the rows below i: each has its size, or is unfinished and stands in ends ──
+record Unfinished (size level ends : List ℕ) (i most j : ℕ) : Type 0 where
+  deep : (k : ℕ) → j < k → k < i → at level j < at level k
+  under : at level j < most
+  stands : at ends (at level j + 1) ≡ j + at size j + 1
+
+-- row j keeps the rules of level, kind and name
 record Kept (t : Table) (j : ℕ) : Type 0 where
   levels : levelOk (t .level) j ≡ true
   others : (kindOk (at (t .kind) j) (at (t .size) j) (at (t .level) j)
       && nameOk (at (t .kind) j) (at (t .name) j)) ≡ true
 
-pub record Followed (t : Table) (ends : List ℕ) (top i : ℕ) : Type 0 where
-  pub some : 1 ≤ i
-  pub low : top < 64
-  pub last : at (t .level) (i - 1) ≡ top
-  pub places : length ends ≡ 64
+-- no end up to most is before i, and a deeper one is no later
+pub record Followed (t : Table) (ends : List ℕ) (most i : ℕ) : Type 0 where
+  pub low : most < 65
+  pub places : length ends ≡ 65
+  pub ahead : (l : ℕ) → l ≤ most → i ≤ at ends l
+  whole : at ends 0 ≡ t .count
+  falls : (l m : ℕ) → l ≤ m → m ≤ most → at ends m ≤ at ends l
+  first : i ≡ 0 → most ≡ 0
+  last : 0 < i → at (t .level) (i - 1) + 1 ≡ most
   kept : (j : ℕ) → j < i → Kept t j
   sizes : (j : ℕ) → j < i
-      → (at (t .size) j ≡ sizeOf (t .level) (t .count) j) ⊎ Unfinished (t .size) (t .level) ends i top j
-
-pub root-small : (own kind size name : ℕ) → rootFits own kind size name ≡ true → size ≤ 4096
-unfolding rootFits
-root-small own kind size name e =
-    leb-true _ _ (both (eqb own 0) _ (both (eqb own 0 && leb size 4096) _ e .0) .1)
-
-pub row-small : (own top kind size name : ℕ) → rowFits own top kind size name ≡ true → (own ≤ 63) × (size ≤ 4096)
-unfolding rowFits
-row-small own top kind size name e =
-    let a = both (leb own 63 && leb own (top + 1) && leb size 4096) _ e in
-    let b = both (leb own 63 && leb own (top + 1)) _ (a .0) in
-    (leb-true _ _ (both (leb own 63) _ (b .0) .0), leb-true _ _ (b .1))
+      → (at (t .size) j ≡ sizeOf (t .level) (t .count) j) ⊎ Unfinished (t .size) (t .level) ends i most j
 
 module _ (t : Table) (u : InUse t) where
-  pub followed-root : (ends : List ℕ) → length ends ≡ 64
-      → rootFits (at (t .level) 0) (at (t .kind) 0) (at (t .size) 0) (at (t .name) 0) ≡ true
-      → Followed t (set ends 0 (at (t .size) 0 + 1)) 0 1
-  unfolding rootFits
-  followed-root ends p e =
-      let a = both (eqb (at (t .level) 0) 0 && leb (at (t .size) 0) 4096) _ e in
-      let b = both (eqb (at (t .level) 0) 0) _ (a .0) in
-      let root : at (t .level) 0 ≡ 0 = eqb-true _ _ (b .0) in
-      record {
-        some = omega arith;
-        low = omega arith;
-        last = root;
-        places = length-set ends 0 _ ∙ p;
-        kept = λ j l. let z : j ≡ 0 = omega arith in rw z (record {
-          levels =
-              level-back (t .level) 0 (record {
-                root = λ _. root;
-                step = λ q. absurd (omega arith);
-                low = omega arith;
-              });
-          others = a .1;
-        });
-        sizes = λ j l. let z : j ≡ 0 = omega arith in inr (record {
-          deep = λ k x y. absurd (omega arith);
-          under = rw z (omega arith);
-          stands = rw (z, root, zero-add (at (t .size) 0)) (getD-set-same ends 0 (at (t .size) 0 + 1) 0 (omega arith));
-        });
-      }
+  pub followed-start : (ends : List ℕ) → length ends ≡ 65 → Followed t (set ends 0 (t .count)) 0 0
+  followed-start ends p = record {
+    low = omega arith;
+    places = length-set ends 0 _ ∙ p;
+    ahead = λ l _. omega arith;
+    whole = getD-set-same ends 0 (t .count) 0 (omega arith);
+    falls = λ l m x y. let z : l ≡ m = omega arith in rw z (le-refl _);
+    first = λ e. e;
+    last = λ l. absurd (not-suc-le-zero l);
+    kept = λ j l. absurd (not-suc-le-zero l);
+    sizes = λ j l. absurd (not-suc-le-zero l);
+  }
 
-  pub followed-more : (ends : List ℕ) (top i : ℕ) → i < t .count → Followed t ends top i
-      → rowFits (at (t .level) i) top (at (t .kind) i) (at (t .size) i) (at (t .name) i) ≡ true
-      → EndAt ends (at (t .level) i) top i
-      → Followed t (set ends (at (t .level) i) (i + at (t .size) i + 1)) (at (t .level) i) (i + 1)
-  unfolding rowFits
-  followed-more ends top i l f e d =
-      let a = both (leb own 63 && leb own (top + 1) && leb (at (t .size) i) 4096) _ e in
-      let b = both (leb own 63 && leb own (top + 1)) _ (a .0) in
-      let g = both (leb own 63) _ (b .0) in
-      let high : own ≤ 63 = leb-true _ _ (g .0) in
-      let near : own ≤ top + 1 = leb-true _ _ (g .1) in
-      record {
-        some = omega arith;
-        low = omega arith;
-        last = let z : i + 1 - 1 ≡ i = omega arith in rw z;
-        places = length-set ends own _ ∙ f .places;
-        kept = λ j q. ⊎-elim
-            (λ z. rw z (record {
-              levels = level-back (t .level) i (record {
-                root = λ z. absurd (omega (arith, f .some));
-                step = λ _. omega (arith, f .last);
-                low = high;
-              });
-              others = a .1;
-            }))
-            (f .kept j) (eq-or-lt-of-le (le-of-suc-le-suc (rw add-one at q)));
-        sizes = λ j q. ⊎-elim
-            (λ z. inr (rw z (record {
-              deep = λ k x y. absurd (omega arith);
-              under = le-refl own;
-              stands = getD-set-same ends own _ 0 (omega (arith, f .places));
-            })))
-            (λ z. ⊎-elim inl (grown j z high) (f .sizes j z)) (eq-or-lt-of-le (le-of-suc-le-suc (rw add-one at q)));
-      }
-    where
-      own : ℕ
-      own = at (t .level) i
+  -- row i fits
+  module _ (ends : List ℕ) (most i : ℕ) (l : i < t .count) (f : Followed t ends most i)
+      (e : fitsIn ends most i (at (t .level) i) (at (t .size) i) ≡ true) where
+    abbrev own : ℕ
+    own = at (t .level) i
 
-      -- row i ends an unfinished row that is no shallower, and leaves the others unfinished
-      grown : (j : ℕ) → j < i → own ≤ 63 → Unfinished (t .size) (t .level) ends i top j
-          → (at (t .size) j ≡ sizeOf (t .level) (t .count) j)
-          ⊎ Unfinished (t .size) (t .level) (set ends own (i + at (t .size) i + 1)) (i + 1) own j
-      grown j z high w = elim (decLt (at (t .level) j) own) [
-        | yes p ↦ inr (record {
-          deep = λ k x y. ⊎-elim (λ r. rw r p) (w .deep k x) (eq-or-lt-of-le (le-of-suc-le-suc (rw add-one at y)));
-          under = omega arith;
-          stands = getD-set-other ends own (at (t .level) j) _ 0 (λ r. omega arith) ∙ w .stands;
-        })
-        | no p ↦ let r : at ends (at (t .level) j) ≡ i = d .all (at (t .level) j) (omega arith) (w .under) in
-            let c = size-ends (t .level) (t .count) j (u .in-level) (omega arith) i z l (w .deep) (omega arith) in
-            inl (omega (arith, w .stands))
-      ]
+    abbrev held : ℕ
+    held = at (t .size) i
 
-  pub followed-all : (ends : List ℕ) (top i : ℕ) → i ≡ t .count → Followed t ends top i → EndAt ends 0 top (t .count)
-      → firstBadBesideKey t ≡ t .count
-  unfolding firstBadBesideKey besideKeyOk sizeOk
-  followed-all ends top i q f d = least-none _ (t .count) (λ j l. ap not (keeps j (omega arith)))
+    w : Standing ends most i own held
+    w = standing ends most i own held e
+
+    -- its end is known without overflow
+    pub row-ends : (own ≤ 63) × (i + held < t .count)
+    row-ends = (
+      w .high,
+      omega (arith, w .inside, f .falls 0 own (omega arith) (w .near), f .whole, f .ahead own (w .near)),
+    )
+
+    abbrev more : List ℕ
+    more = set ends (own + 1) (i + held + 1)
+
+    own-end : (m : ℕ) → m ≡ own + 1 → at more m ≡ i + held + 1
+    own-end m r =
+        ap (λ (k : ℕ). at more k) r ∙ getD-set-same ends (own + 1) _ 0 (omega (arith, f .places, w .high))
+
+    other-end : (m : ℕ) → m ≤ own → at more m ≡ at ends m
+    other-end m x = getD-set-other ends (own + 1) m _ 0 (λ r. absurd (omega arith))
+
+    -- the ends above the row's own one are no earlier
+    above : (m : ℕ) → m ≤ own → i + held + 1 ≤ at ends m
+    above m x = omega (arith, w .inside, f .falls m own x (w .near))
+
+    -- row i ends an unfinished row that is no shallower, and leaves the others unfinished
+    grown : (j : ℕ) → j < i → Unfinished (t .size) (t .level) ends i most j
+        → (at (t .size) j ≡ sizeOf (t .level) (t .count) j)
+        ⊎ Unfinished (t .size) (t .level) more (i + 1) (own + 1) j
+    grown j z v = elim (decLt (at (t .level) j) own) [
+      | yes p ↦ inr (record {
+        deep = λ k x y. ⊎-elim (λ r. rw r p) (v .deep k x) (eq-or-lt-of-le (le-of-suc-le-suc (rw add-one at y)));
+        under = omega arith;
+        stands = other-end (at (t .level) j + 1) (omega arith) ∙ v .stands;
+      })
+      | no p ↦
+          let near = f .ahead (at (t .level) j + 1) (omega (arith, v .under)) in
+          let far = f .falls (own + 1) (at (t .level) j + 1) (omega arith) (omega (arith, v .under)) in
+          let c = size-ends (t .level) (t .count) j (u .in-level) (omega arith) i z l (v .deep) (omega arith) in
+          inl (omega (arith, v .stands, w .after))
+    ]
+
+    pub followed-more : (kindOk (at (t .kind) i) held own && nameOk (at (t .kind) i) (at (t .name) i)) ≡ true
+        → Followed t (set ends (at (t .level) i + 1) (i + at (t .size) i + 1)) (at (t .level) i + 1) (i + 1)
+    followed-more d = record {
+      low = omega (arith, w .high);
+      places = length-set ends (own + 1) _ ∙ f .places;
+      ahead = λ m x. ⊎-elim (λ r. omega (arith, own-end m r))
+          (λ r. omega (arith, other-end m (omega arith), above m (omega arith))) (eq-or-lt-of-le x);
+      whole = other-end 0 (omega arith) ∙ f .whole;
+      falls = λ k m x y. ⊎-elim (λ r. last-falls k m x r)
+          (λ r. omega (arith, other-end k (omega arith), other-end m (omega arith), f .falls k m x (omega (arith, w .near))))
+          (eq-or-lt-of-le y);
+      first = λ z. absurd (omega arith);
+      last = λ _. let z : i + 1 - 1 ≡ i = omega arith in rw z;
+      kept = λ j q. ⊎-elim
+          (λ z. rw z (record {
+            levels = level-back (t .level) i (record {
+              root = λ z. omega (arith, w .near, f .first z);
+              step = λ z. omega (arith, w .near, f .last z);
+              low = w .high;
+            });
+            others = d;
+          }))
+          (f .kept j) (eq-or-lt-of-le (le-of-suc-le-suc (rw add-one at q)));
+      sizes = λ j q. ⊎-elim
+          (λ z. inr (rw z (record {
+            deep = λ k x y. absurd (omega arith);
+            under = omega arith;
+            stands = own-end (own + 1) refl;
+          })))
+          (λ z. ⊎-elim inl (grown j z) (f .sizes j z)) (eq-or-lt-of-le (le-of-suc-le-suc (rw add-one at q)));
+    }
+      where
+        last-falls : (k m : ℕ) → k ≤ m → m ≡ own + 1 → at more m ≤ at more k
+        last-falls k m x r = ⊎-elim (λ z. rw z (le-refl _))
+            (λ z. omega (arith, own-end m r, other-end k (omega arith), above k (omega arith))) (eq-or-lt-of-le x)
+
+  -- behind the last row every unfinished row ends with the table
+  pub followed-all : (ends : List ℕ) (most i : ℕ) → i ≡ t .count → Followed t ends most i
+      → ((j : ℕ) → j < i → keyOk (t .key) j ≡ true) → firstBad t ≡ t .count
+  unfolding firstBad rowOk besideKeyOk sizeOk
+  followed-all ends most i q f keys =
+      least-none _ (t .count) (λ j l. ap not (both-of (keeps j (omega arith)) (keys j (omega arith))))
     where
       size-is : (j : ℕ) → j < i → at (t .size) j ≡ sizeOf (t .level) (t .count) j
-      size-is j l = ⊎-elim (λ e. e) (λ w.
-          let r : at ends (at (t .level) j) ≡ t .count = d .all (at (t .level) j) (omega arith) (w .under) in
-          let c = size-last (t .level) (t .count) j (u .in-level) (omega arith) (λ k x y. w .deep k x (omega arith)) in
-          omega (arith, w .stands)) (f .sizes j l)
+      size-is j l = ⊎-elim (λ e. e) (λ v.
+          let near = f .ahead (at (t .level) j + 1) (omega (arith, v .under)) in
+          let far = f .falls 0 (at (t .level) j + 1) (omega arith) (omega (arith, v .under)) in
+          let c = size-last (t .level) (t .count) j (u .in-level) (omega arith) (λ k x y. v .deep k x (omega arith)) in
+          omega (arith, v .stands, f .whole)) (f .sizes j l)
 
       keeps : (j : ℕ) → j < i → besideKeyOk t j ≡ true
       keeps j l =

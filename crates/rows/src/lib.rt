@@ -12,7 +12,7 @@ use rules::level_ok;
 use rules::name_ok;
 use rules::size_ok;
 
-mod one_pass; // one_pass.rt: the rules of all rows but the keys' in one pass
+mod one_pass; // one_pass.rt: all rules of all rows in one pass
 
 // The length of the shortest column.
 pub fn shortest(
@@ -104,27 +104,7 @@ fn search_row_by_row(
     i
 }
 
-// The same, by one pass where no row breaks a rule.
-fn first_bad_beside_key(
-    key: &[usize],
-    size: &[usize],
-    level: &[usize],
-    kind: &[usize],
-    name: &[usize],
-    count: usize,
-) -> usize
-    requires { ⌜ InUse (tableOf (now key) (now size) (now level) (now kind) (now name) count) ⌝ }
-    ensures { λ r. ⌜ r ≡ firstBadBesideKey
-        (tableOf (now (key .entry)) (now (size .entry)) (now (level .entry))
-        (now (kind .entry)) (now (name .entry)) count) ⌝ }
-{
-    if one_pass::all_fit(key, size, level, kind, name, count) {
-        return count;
-    }
-    search_row_by_row(key, size, level, kind, name, count)
-}
-
-// The least row that is not sound, or the count.
+// The least row that is not sound, or the count: by one pass where every row is sound.
 pub fn first_bad(
     key: &[usize],
     size: &[usize],
@@ -138,8 +118,11 @@ pub fn first_bad(
         (tableOf (now (key .entry)) (now (size .entry)) (now (level .entry))
         (now (kind .entry)) (now (name .entry)) count) ⌝ }
 {
+    if one_pass::passed(key, size, level, kind, name, count) == count {
+        return count;
+    }
     smaller(
-        first_bad_beside_key(key, size, level, kind, name, count),
+        search_row_by_row(key, size, level, kind, name, count),
         keys::first_key(key, count),
     )
 }

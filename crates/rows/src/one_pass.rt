@@ -1,96 +1,147 @@
-// The rules of all rows but the keys' in one pass, with the rows that are still open remembered by level. A table that
-// fails here is searched row by row for its least unsound row (lib.rt).
+// All rules of all rows in one pass, with the rows that are still open remembered by level and the rows passed chained
+// by their keys. A table that fails here is searched for its least unsound row (lib.rt).
 ghost use mathlib.Core.Path.{_≡_};
-ghost use mathlib.Core.Bool.{true};
-ghost use Prim.Native.Nat.{_<_};
-ghost use Rattle.tree.specs.Table.{tableOf};
+ghost use mathlib.Core.Bool.{_&&_};
+ghost use Prim.Native.Nat.{ℕ, _<_, _≤_};
+ghost use Rattle.tree.specs.Table.{at, tableOf};
+ghost use Rattle.tree.specs.Sound.{kindOk, nameOk, firstBad};
 ghost use Rattle.tree.specs.Rules.{InUse};
-ghost use Rattle.rows.specs.FirstBad.{firstBadBesideKey};
-ghost use Rattle.rows.specs.OnePass.{rowFits, rootFits, EndAt};
+ghost use Rattle.keys.specs.Chain.{ChainRoom, Chained};
+ghost use Rattle.rows.specs.OnePass.{fitsIn};
 use basics::both;
-use rules::kind_ok;
-use rules::name_ok;
 
-// Whether a later row keeps the rules of level, kind and name after a row of level top, with a size that is no more
-// than a table has rows. Most rows are elements, so they come first.
-fn row_fits(size: usize, own: usize, kind: usize, name: usize, top: usize) -> bool
-    requires { ⌜ top < 64 ⌝ }
-    ensures { λ r. ⌜ r ≡ rowFits own top kind size name ⌝ }
+// Whether a row of level own, with held rows below it, may stand at row i, where levels may be up to most: inside the
+// row it lies under, and after the end of the row of its own level before it.
+fn fits_in(ends: &[usize; 65], most: usize, i: usize, own: usize, held: usize) -> bool
+    requires { ⌜ most < 65 ⌝ }
+    requires { ⌜ ((l : ℕ) → l ≤ most → i ≤ at (now ends) l) ⌝ }
+    ensures { λ r. ⌜ r ≡ fitsIn (now (ends .entry)) most i own held ⌝ }
 {
+    if most < own {
+        return false;
+    }
     if 63 < own {
         return false;
     }
-    if top + 1 < own {
-        return false;
-    }
-    if 4096 < size {
-        return false;
-    }
-    if kind == 1 {
-        return name != 0;
-    }
-    both(kind_ok(size, own, kind), name_ok(kind, name))
+    both(held < ends[own] - i, ends[own + 1] <= i)
 }
 
-// Whether row 0 keeps the same rules.
-fn root_fits(size: usize, own: usize, kind: usize, name: usize) -> bool
-    ensures { λ r. ⌜ r ≡ rootFits own kind size name ⌝ }
+// Whether kind, name, level and size of a row fit each other. A name that is 0 is looked for first, since compilers
+// take it for the rare case, which it is.
+fn kind_fits(size: usize, own: usize, kind: usize, name: usize) -> bool
+    ensures { λ r. ⌜ r ≡ (kindOk kind size own && nameOk kind name) ⌝ }
 {
-    both(
-        both(own == 0, size <= 4096),
-        both(kind_ok(size, own, kind), name_ok(kind, name)),
-    )
-}
-
-// Whether the open rows of the levels low to high all have to end before row i: true only where it is so.
-fn end_at(ends: &[usize; 64], low: usize, high: usize, i: usize) -> bool
-    requires { ⌜ high < 64 ⌝ }
-    ensures { λ r. ⌜ (r ≡ true → EndAt (now (ends .entry)) low high i) ⌝ }
-{
-    let mut l = low;
-    while l <= high {
-        if ends[l] != i {
-            return false;
-        }
-        l += 1;
+    if name == 0 {
+        return match kind {
+            0 => own == 0,
+            2..=3 => size == 0,
+            _ => false,
+        };
+    }
+    if kind != 1 {
+        return both(kind == 4, size == 0);
     }
     true
 }
 
-// Whether every row keeps all rules but the key's: true only where it is so.
-pub fn all_fit(
+// How many rows pass: all of them only where every row is sound. No row is chained at first. At l in ends stands where
+// the rows of level l have to end at the latest: the end of the table, and behind it that of the last row of each level.
+fn passed_in(
     key: &[usize],
     size: &[usize],
     level: &[usize],
     kind: &[usize],
     name: &[usize],
     count: usize,
-) -> bool
+    heads: &mut [u16],
+    next: &mut [u16],
+    shift: usize,
+) -> usize
     requires { ⌜ InUse (tableOf (now key) (now size) (now level) (now kind) (now name) count) ⌝ }
-    ensures { λ r. ⌜ (r ≡ true → firstBadBesideKey
+    requires { ⌜ ChainRoom (now heads) (now next) shift count ⌝ }
+    requires { ⌜ Chained shift (now key) (now heads) (now next) 0 ⌝ }
+    ensures { λ r. ⌜ (r ≡ count → firstBad
         (tableOf (now (key .entry)) (now (size .entry)) (now (level .entry))
         (now (kind .entry)) (now (name .entry)) count) ≡ count) ⌝ }
 {
-    let held = size[0];
-    if !root_fits(held, level[0], kind[0], name[0]) {
-        return false;
-    }
-    let mut ends = [0usize; 64];
-    ends[0] = held + 1;
-    let mut top = 0;
-    let mut i = 1;
+    let mut ends = [0usize; 65];
+    ends[0] = count;
+    let mut most = 0;
+    let mut i = 0;
     while i < count {
+        if !keys::enter(key, i, heads, next, shift) {
+            return i;
+        }
         let own = level[i];
         let held = size[i];
-        if !row_fits(held, own, kind[i], name[i], top) {
-            return false;
+        if !fits_in(&ends, most, i, own, held) {
+            return i;
         }
-        if !end_at(&ends, own, top, i) {
-            return false;
+        if !kind_fits(held, own, kind[i], name[i]) {
+            return i;
         }
-        ends[own] = i + held + 1;
-        top = own;
+        most = own + 1;
+        ends[most] = i + held + 1;
         i += 1;
     }
-    end_at(&ends, 0, top, count)
+    i
+}
+
+// The same in columns of its own, as `keys::first_key` has them.
+pub fn passed(
+    key: &[usize],
+    size: &[usize],
+    level: &[usize],
+    kind: &[usize],
+    name: &[usize],
+    count: usize,
+) -> usize
+    requires { ⌜ InUse (tableOf (now key) (now size) (now level) (now kind) (now name) count) ⌝ }
+    ensures { λ r. ⌜ (r ≡ count → firstBad
+        (tableOf (now (key .entry)) (now (size .entry)) (now (level .entry))
+        (now (kind .entry)) (now (name .entry)) count) ≡ count) ⌝ }
+{
+    if count <= 64 {
+        let mut heads = [0u16; 256];
+        let mut next = [0u16; 64];
+        return passed_in(
+            key,
+            size,
+            level,
+            kind,
+            name,
+            count,
+            &mut heads,
+            &mut next,
+            24,
+        );
+    }
+    if count <= 512 {
+        let mut heads = [0u16; 2048];
+        let mut next = [0u16; 512];
+        return passed_in(
+            key,
+            size,
+            level,
+            kind,
+            name,
+            count,
+            &mut heads,
+            &mut next,
+            21,
+        );
+    }
+    let mut heads = [0u16; 16384];
+    let mut next = [0u16; 4096];
+    passed_in(
+        key,
+        size,
+        level,
+        kind,
+        name,
+        count,
+        &mut heads,
+        &mut next,
+        18,
+    )
 }

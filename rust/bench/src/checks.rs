@@ -3,7 +3,7 @@
 use crate::race::{Race, Times};
 use crate::report::{figure, Group};
 use crate::tables::{deep, flat};
-use lent::{buckets, Columns};
+use lent::{key_of, Columns};
 
 /// At 4,096 flat rows the check takes at most so many times what plain Rust takes.
 const CHECK_BAR: f64 = 1.3;
@@ -47,7 +47,7 @@ fn check_time(race: &Race, table: &Columns) -> Times {
 fn one_bucket(race: &Race) {
     let mut group = Group::new("check, keys in one bucket of the library");
     for rows in [64, 512, 4_096] {
-        let key = (1..=rows).map(|number| number * buckets(rows)).collect();
+        let key = (1..=rows).map(|number| key_of(number as u32, 0)).collect();
         let times = check_time(race, &Columns { key, ..flat(rows) });
         group.line(&format!("{rows} rows, flat"), times);
     }

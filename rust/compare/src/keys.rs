@@ -1,12 +1,9 @@
 //! Keys that differ, in one of several patterns. To see whether a key is repeated, or taken by a
-//! piece, the library compares it with those of its bucket, which have the same remainder. So some
-//! patterns bring many keys into one bucket.
+//! piece, the library compares it with those of its bucket. So some patterns bring many keys into
+//! one bucket.
 
 use crate::random::Random;
-use lent::{buckets, scattered_key, BUCKETS};
-
-/// Keys that are so far apart share a bucket, however many buckets there are.
-pub const APART_IN_ALL: usize = BUCKETS[0] * BUCKETS[1] * BUCKETS[2];
+use lent::{bucket, buckets, key_of, scattered_key, width, BUCKETS};
 
 /// With more rows a shared bucket takes the library long. The checks and the edits pose such
 /// tables on purpose; no other table becomes one by chance.
@@ -35,20 +32,28 @@ pub fn some_keys(random: &mut Random, rows: usize) -> Vec<usize> {
 }
 
 /// So many keys for a table of so many rows, in one bucket or in a few neighbouring ones: mostly
-/// of as many buckets as the table has, else of another number of them, or of all three numbers.
+/// of as many buckets as the table has, else of another number of them. Their upper halves are all
+/// 0, all the same or all different; the largest key is among some of them.
 pub fn sharing_keys(random: &mut Random, keys: usize, rows: usize) -> Vec<usize> {
     let (own, [few, some, most]) = (buckets(rows), BUCKETS);
-    let apart = random.pick(&[own, own, few, some, most, APART_IN_ALL]);
+    let of = random.pick(&[own, own, few, some, most, most]);
     let in_use = random.pick(&[1, 1, 2, 7]);
-    let mut keys: Vec<usize> =
-        (0..keys).map(|number| number / in_use * apart + number % in_use).collect();
-    let largest = keys.iter().copied().max().unwrap_or(0);
-    let start = match random.below(3) {
-        0 => random.within(1, apart),
-        1 => usize::MAX - largest,
-        _ => random.within(1, usize::MAX - largest),
+    let with_largest = random.chance(33);
+    let (first, start) = match with_largest {
+        true => (bucket(usize::MAX, of), 1),
+        false => (random.below(of), random.within(1, width(of) - keys)),
     };
-    keys.iter_mut().for_each(|key| *key += start);
+    let upper = random.number();
+    let (high, apart) = random.pick(&[(0, 0), (upper, 0), (upper, 1)]);
+    let mut keys: Vec<usize> = (0..keys)
+        .map(|key| {
+            let number = (first + key % in_use) % of * width(of) + start + key / in_use;
+            key_of(number as u32, high.wrapping_add(key * apart) as u32)
+        })
+        .collect();
+    if with_largest {
+        keys[0] = usize::MAX;
+    }
     random.shuffle(&mut keys);
     keys
 }
@@ -69,7 +74,7 @@ pub fn sharing_rows(random: &mut Random) -> usize {
 mod tests {
     use super::sharing_keys;
     use crate::random::Random;
-    use lent::BUCKETS;
+    use lent::{bucket, BUCKETS};
     use std::collections::HashSet;
 
     #[test]
@@ -80,7 +85,7 @@ mod tests {
             let keys = sharing_keys(random, rows, rows);
             let distinct: HashSet<usize> = keys.iter().copied().collect();
             assert!(distinct.len() == rows && !distinct.contains(&0));
-            let in_use = |buckets: usize| keys.iter().map(|key| key % buckets).collect();
+            let in_use = |buckets: usize| keys.iter().map(|&key| bucket(key, buckets)).collect();
             assert!(BUCKETS.map(in_use).iter().any(|in_use: &HashSet<usize>| in_use.len() <= 7));
         }
     }

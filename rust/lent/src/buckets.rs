@@ -1,8 +1,12 @@
 //! The buckets in which the library compares keys.
 
-/// The numbers of buckets that the library has: for few rows, for more, and for up to the most. A
-/// key's bucket is its remainder.
-pub const BUCKETS: [usize; 3] = [241, 2_029, 16_381];
+/// The numbers of buckets that the library has: for few rows, for more, and for up to the most.
+pub const BUCKETS: [usize; 3] = [256, 2_048, 16_384];
+
+/// A key's number is the sum of its halves' products with these, modulo 2^32; its bucket is the same
+/// part of all buckets as its number is of 2^32.
+const LOW_FACTOR: u32 = 0x61C8_8647;
+const HIGH_FACTOR: u32 = 0x1B87_3593;
 
 /// How many buckets it has for so many rows in use.
 pub fn buckets(rows: usize) -> usize {
@@ -10,5 +14,57 @@ pub fn buckets(rows: usize) -> usize {
         0..=64 => BUCKETS[0],
         65..=512 => BUCKETS[1],
         _ => BUCKETS[2],
+    }
+}
+
+/// The bucket of a key, of so many. With fewer buckets each is made up of whole ones, so keys that
+/// share one of the most share one of any number.
+pub fn bucket(key: usize, buckets: usize) -> usize {
+    number_of(key) as usize / width(buckets)
+}
+
+/// So many numbers fall into a bucket.
+pub fn width(buckets: usize) -> usize {
+    (1 << 32) / buckets
+}
+
+/// The number of a key.
+pub fn number_of(key: usize) -> u32 {
+    let (low, high) = (key as u32, (key >> 32) as u32);
+    low.wrapping_mul(LOW_FACTOR).wrapping_add(high.wrapping_mul(HIGH_FACTOR))
+}
+
+/// The one key that has the number and the upper half. Only number 0 has key 0.
+pub fn key_of(number: u32, high: u32) -> usize {
+    let low = number.wrapping_sub(high.wrapping_mul(HIGH_FACTOR)).wrapping_mul(inverse(LOW_FACTOR));
+    (high as usize) << 32 | low as usize
+}
+
+/// The number whose product with an odd one is 1, modulo 2^32. Each turn doubles the bits that are
+/// right, and an odd number is its own inverse in its last three.
+fn inverse(odd: u32) -> u32 {
+    (0..4).fold(odd, |found, _| found.wrapping_mul(2u32.wrapping_sub(odd.wrapping_mul(found))))
+}
+
+#[cfg(test)]
+mod tests {
+    use super::{bucket, inverse, key_of, number_of, width, BUCKETS, LOW_FACTOR};
+    use crate::scattered_key;
+
+    #[test]
+    fn a_key_is_found_from_its_number() {
+        assert_eq!(inverse(LOW_FACTOR).wrapping_mul(LOW_FACTOR), 1);
+        for key in (0..1_000).map(scattered_key).chain([0, 1, usize::MAX]) {
+            assert_eq!(key_of(number_of(key), (key >> 32) as u32), key);
+        }
+    }
+
+    #[test]
+    fn buckets_are_parts_of_all_numbers() {
+        for buckets in BUCKETS {
+            assert_eq!(bucket(key_of(u32::MAX, 7), buckets), buckets - 1);
+            assert_eq!(bucket(key_of(width(buckets) as u32, 7), buckets), 1);
+            assert_eq!(bucket(key_of(width(buckets) as u32 - 1, 7), buckets), 0);
+        }
     }
 }

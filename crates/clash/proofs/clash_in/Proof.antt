@@ -16,12 +16,12 @@ use Rattle.clash.proofs.clash_in.Statement.{statement}
 use Rattle.clash.proofs.clash_in.Tie as tie
 
 abbrev Inv-loop : tie.InvT-loop
-Inv-loop key n piece m heads next buckets i₀ i =
-    (i ≤ m) × ChainRoom heads next buckets n × Chained buckets key heads next n
+Inv-loop key n piece m heads next shift i₀ i =
+    (i ≤ m) × ChainRoom heads next shift n × Chained shift key heads next n
     × ((j : ℕ) → j < i → ltb (rowOf key n (at piece j)) n ≡ false)
 
 abbrev μ-loop : tie.MeasureT-loop
-μ-loop key n piece m heads next buckets i₀ i = m - i
+μ-loop key n piece m heads next shift i₀ i = m - i
 
 chain-requires : tie.Need-chain-requires Inv-loop μ-loop
 chain-requires c κs = search needs

@@ -1,5 +1,6 @@
 -- `keys::first_key` meets its contract: columns of zeros serve, at each of the three sizes. Assumes nothing.
 use native.Mathlib.Omega.{arith}
+use lib.Dec.{lit≤}
 use Rattle.keys.proofs.KeyLaws.{cleared}
 use borrow.Author.Needs.{needs}
 use Rattle.keys.proofs.first_key.Statement.{statement}
@@ -13,7 +14,7 @@ slice-aggregate-first-in-2 c = search needs
 
 first-in-requires : tie.Need-first-in-requires
 first-in-requires c κs =
-    (search needs, cleared _ 256 64 _ _ (omega arith) (omega arith) (omega arith) (omega arith))
+    (search needs, cleared 24 256 64 _ _ (lit≤ tt) (lit≤ tt) (omega arith) (omega arith))
 
 returns : tie.Need-returns
 returns c = search needs
@@ -26,7 +27,7 @@ slice-aggregate-first-in-4 c = search needs
 
 first-in-requires-2 : tie.Need-first-in-requires-2
 first-in-requires-2 c κs =
-    (search needs, cleared _ 2048 512 _ _ (omega arith) (omega arith) (omega arith) (omega arith))
+    (search needs, cleared 21 2048 512 _ _ (lit≤ tt) (lit≤ tt) (omega arith) (omega arith))
 
 returns-2 : tie.Need-returns-2
 returns-2 c = search needs
@@ -39,7 +40,7 @@ slice-aggregate-first-in-6 c = search needs
 
 first-in-requires-3 : tie.Need-first-in-requires-3
 first-in-requires-3 c κs =
-    (search needs, cleared _ 16384 4096 _ _ (omega arith) (omega arith) (omega arith) (omega arith))
+    (search needs, cleared 18 16384 4096 _ _ (lit≤ tt) (lit≤ tt) (omega arith) (omega arith))
 
 returns-3 : tie.Need-returns-3
 returns-3 c = search needs

@@ -9,10 +9,10 @@ use Rattle.keys.proofs.fresh.Statement.{statement}
 use Rattle.keys.proofs.fresh.Tie as tie
 
 abbrev Inv-loop : tie.InvT-loop
-Inv-loop key i x heads next buckets b r₀ r = Walk buckets key x i r
+Inv-loop key i x heads next shift b r₀ r = Walk shift key x i r
 
 abbrev μ-loop : tie.MeasureT-loop
-μ-loop key i x heads next buckets b r₀ r = r
+μ-loop key i x heads next shift b r₀ r = r
 
 bucket-requires : tie.Need-bucket-requires Inv-loop μ-loop
 bucket-requires c κs = search needs
@@ -27,14 +27,14 @@ cast-r : tie.Need-cast-r Inv-loop μ-loop
 cast-r c =
     let start = c .before .before .before .before .before in
     let w =
-    walk-start _ _ _ _ _ (start .args .x) _ (start .pre .1 .0 .some) (start .pre .1 .1)
+    walk-start _ _ _ _ _ (start .args .x) _ (start .pre .1 .0 .low) (start .pre .1 .1)
     (c .before .bucket .ensures .0) in
     omega arith
 
 loop-holds : tie.Need-loop-holds Inv-loop μ-loop
 loop-holds c =
     let start = c .before .before .before .before .before in
-    walk-start _ _ _ _ _ (start .args .x) _ (start .pre .1 .0 .some) (start .pre .1 .1) (c .before .bucket .ensures .0)
+    walk-start _ _ _ _ _ (start .args .x) _ (start .pre .1 .0 .low) (start .pre .1 .1) (c .before .bucket .ensures .0)
 
 sub-j : tie.Need-sub-j Inv-loop μ-loop
 sub-j c = search needs

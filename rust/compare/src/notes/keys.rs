@@ -2,8 +2,7 @@
 
 use super::{note, Note, CHECK, EDIT, MOST_ROWS, TABLE};
 use crate::case::{Answer, Call, Case, Insert};
-use crate::keys::APART_IN_ALL;
-use lent::buckets;
+use lent::{bucket, buckets, BUCKETS};
 use std::collections::HashSet;
 use std::ops::RangeInclusive;
 
@@ -16,27 +15,27 @@ pub static KEYS: [Note; 16] = [
     note(TABLE, "all keys in one bucket, accepted", 1_000, |case, answer| {
         accepts_one_bucket(case, answer, 1..=MOST_ROWS)
     }),
-    note(CHECK, "all keys in one of 2,029 buckets, accepted", 200, |case, answer| {
+    note(CHECK, "all keys in one of 2,048 buckets, accepted", 200, |case, answer| {
         accepts_one_bucket(case, answer, 65..=512)
     }),
-    note(CHECK, "all keys in one of 16,381 buckets, accepted", 20, |case, answer| {
+    note(CHECK, "all keys in one of 16,384 buckets, accepted", 20, |case, answer| {
         accepts_one_bucket(case, answer, 513..=MOST_ROWS)
     }),
     note(CHECK, "4,096 keys in one bucket, accepted", 10, |case, answer| {
         accepts_one_bucket(case, answer, MOST_ROWS..=MOST_ROWS)
     }),
     note(CHECK, "4,096 keys in a few buckets, accepted", 10, |case, answer| {
-        let filled = || keys(case).iter().map(|key| key % buckets(case.count));
+        let filled = || keys(case).iter().map(|&key| bucket(key, buckets(case.count)));
         answer.refusal == 0
             && case.count == MOST_ROWS
             && (2..=OTHERS).contains(&filled().collect::<HashSet<_>>().len())
     }),
     note(CHECK, "all keys in one bucket, however many buckets there are", 100, |case, answer| {
-        answer.refusal == 0 && share_a_bucket(keys(case), APART_IN_ALL)
+        answer.refusal == 0 && share_a_bucket(keys(case), BUCKETS[2])
     }),
     note(CHECK, "the same with the largest key", 20, |case, answer| {
         let largest = || keys(case).contains(&usize::MAX);
-        answer.refusal == 0 && largest() && share_a_bucket(keys(case), APART_IN_ALL)
+        answer.refusal == 0 && largest() && share_a_bucket(keys(case), BUCKETS[2])
     }),
     note(CHECK, "a key found before others of its bucket", 200, |case, answer| {
         let found = |key: usize| comes_before_others(case, key, case.count);
@@ -72,12 +71,13 @@ fn keys(case: &Case) -> &[usize] {
 /// How many of the others are in the bucket of the key.
 fn beside(case: &Case, key: usize, others: &[usize]) -> usize {
     let buckets = buckets(case.count);
-    others.iter().filter(|&&other| other % buckets == key % buckets).count()
+    others.iter().filter(|&&other| bucket(other, buckets) == bucket(key, buckets)).count()
 }
 
 /// Whether there are many keys, and all of them in one of so many buckets.
 fn share_a_bucket(keys: &[usize], buckets: usize) -> bool {
-    keys.len() > OTHERS && keys.iter().all(|key| key % buckets == keys[0] % buckets)
+    let first = || bucket(keys[0], buckets);
+    keys.len() > OTHERS && keys.iter().all(|&key| bucket(key, buckets) == first())
 }
 
 /// Whether a table of so many rows is accepted, with all its keys in one bucket.
