@@ -1,6 +1,6 @@
 -- The walk along a chain finds a repeated key: `walk-start`, `walk-step`, `walk-less`, and its ends `fresh-true`,
--- `fresh-false`. Chains start empty and grow by a row: `cleared`, `chained-more`. These hold however many buckets there are.
--- The test of a key: `key-zero`, `key-again`, `key-good`. Assumes nothing.
+-- `fresh-false`. Chains start empty and grow by a row: `cleared`, `chained-more`. These hold however many buckets there
+-- are. A bucket is one of them: `bucket-lt`. The test of a key: `key-zero`, `key-again`, `key-good`. Assumes nothing.
 use mathlib.Core.Path.{_≡_, refl, sym, ap, subst, _∙_}
 use mathlib.Core.Logic.{_⊎_, inl, inr}
 use mathlib.Core.Bool.{Bool, true, false, not}

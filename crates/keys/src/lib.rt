@@ -43,14 +43,14 @@ pub fn row_of(key: &[usize], n: usize, x: usize) -> usize
     k
 }
 
-// A number below 2^32 for a key, from both its halves.
+// A number below 2^32 for a key, from both its halves. No product is as much as 2^63.
 fn spread(x: usize) -> usize
     ensures { λ r. ⌜ r ≡ spreadOf x ⌝ }
 {
-    ((x % 4294967296) * 1640531527 + (x / 4294967296) * 461845907) % 4294967296
+    ((x % 0x1_0000_0000) * 0x61C8_8647 + (x / 0x1_0000_0000) * 0x1B87_3593) % 0x1_0000_0000
 }
 
-// The bucket of a key.
+// The bucket of a key. It takes no division, so one loop serves any number of buckets.
 fn bucket(x: usize, shift: usize) -> usize
     requires { ⌜ shift ≤ 32 ⌝ }
     ensures { λ r. ⌜ (r ≡ bucketOf shift x) × (r < bucketsOf shift) ⌝ }

@@ -163,7 +163,8 @@ module _ (t : Table) (u : InUse t) where
           (λ r. omega (arith, other-end m (omega arith), above m (omega arith))) (eq-or-lt-of-le x);
       whole = other-end 0 (omega arith) ∙ f .whole;
       falls = λ k m x y. ⊎-elim (λ r. last-falls k m x r)
-          (λ r. omega (arith, other-end k (omega arith), other-end m (omega arith), f .falls k m x (omega (arith, w .near))))
+          (λ r. let e = f .falls k m x (omega (arith, w .near)) in
+          omega (arith, other-end k (omega arith), other-end m (omega arith)))
           (eq-or-lt-of-le y);
       first = λ z. absurd (omega arith);
       last = λ _. let z : i + 1 - 1 ≡ i = omega arith in rw z;

@@ -26,8 +26,8 @@ fn fits_in(ends: &[usize; 65], most: usize, i: usize, own: usize, held: usize) -
     both(held < ends[own] - i, ends[own + 1] <= i)
 }
 
-// Whether kind, name, level and size of a row fit each other. A name that is 0 is looked for first, since compilers
-// take it for the rare case, which it is.
+// Whether kind, name, level and size of a row fit each other. A name of 0 is asked for first: compilers expect what is
+// compared with 0 to differ from it, and most rows are elements with a name.
 fn kind_fits(size: usize, own: usize, kind: usize, name: usize) -> bool
     ensures { λ r. ⌜ r ≡ (kindOk kind size own && nameOk kind name) ⌝ }
 {
@@ -44,8 +44,8 @@ fn kind_fits(size: usize, own: usize, kind: usize, name: usize) -> bool
     true
 }
 
-// How many rows pass: all of them only where every row is sound. No row is chained at first. At l in ends stands where
-// the rows of level l have to end at the latest: the end of the table, and behind it that of the last row of each level.
+// How many rows pass: all of them only where every row is sound. No row is chained at first. Where a row of level l has
+// to end at the latest stands at l in ends: the end of the table, and behind it that of the last row of each level.
 fn passed_in(
     key: &[usize],
     size: &[usize],

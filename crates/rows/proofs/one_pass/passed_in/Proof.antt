@@ -1,5 +1,5 @@
--- `rows::one_pass::passed_in` meets its contract. The rows below i are followed: each has its size, or is unfinished and
--- stands in ends; and they are chained by their keys, which are good. Assumes nothing.
+-- `rows::one_pass::passed_in` meets its contract. The rows below i are followed: each has its size, or is unfinished
+-- and stands in ends; and they are chained by their keys, which are good. Assumes nothing.
 use Prim.Native.Nat.{ℕ, _+_, _≤_, _<_, _-_}
 use mathlib.Core.Path.{_≡_, sym, _∙_}
 use mathlib.Core.Bool.{true}
@@ -59,7 +59,7 @@ same-length-2 : tie.Need-same-length-2 Inv-loop μ-loop
 same-length-2 c = search needs
 
 returns : tie.Need-returns Inv-loop μ-loop
-returns c e = absurd (omega (arith, c .before .before .before .before .before .before .before .before .loop-test .taken))
+returns c e = absurd (omega arith)
 
 mul-own : tie.Need-mul-own Inv-loop μ-loop
 mul-own c = search needs
@@ -75,8 +75,8 @@ shared-slice-read-held c = search needs
 
 fits-in-requires : tie.Need-fits-in-requires Inv-loop μ-loop
 fits-in-requires c κs =
-    let followed = c .before .before .before .before .before .before .before .before .before .before .before .before .loop
-    .inv .4 in (followed .low, followed .ahead)
+    let entered = c .before .before .before .before .before .before .before .before in
+    let followed = entered .before .before .before .before .loop .inv .4 in (followed .low, followed .ahead)
 
 same-length-3 : tie.Need-same-length-3 Inv-loop μ-loop
 same-length-3 c = search needs
