@@ -37,10 +37,7 @@ fn plants(race: &Race) {
             group.line(&format!("delete {rows} rows {place}"), times);
         }
     }
-    let full = plant(ROWS);
-    let key_wanted = full.key[ROWS / 2];
-    let times = race.time_edit(&full, |engine, table| engine.rename(table, key_wanted, 9));
-    group.line("rename", times);
+    group.line("rename", renaming(race, &plant(ROWS), ROWS / 2));
     let nine = farms(9, 455);
     for (which, farm) in [("first", 0), ("last", 8)] {
         let root = nine.key[farm * 455];
@@ -51,7 +48,7 @@ fn plants(race: &Race) {
 }
 
 /// One row comes in or goes, and the sizes above it change: past all rows of a flat table, through 63
-/// levels, and at each of these levels past 64 siblings.
+/// levels, and at each of these levels past 64 siblings. A rename looks for the parent too.
 fn ways_up(race: &Race) {
     let mut group = Group::new("edit of one row, with a long way up");
     let (count, piece) = (ROWS - 1, piece(1));
@@ -69,8 +66,15 @@ fn ways_up(race: &Race) {
             let times = deletion(race, &table, parent, &piece);
             group.line(&format!("delete {place}, {name}"), times);
         }
+        let times = renaming(race, &table, last);
+        group.line(&format!("rename at the end, {name}"), times);
     }
     group.mean_and_worst(MEAN_BAR, WORST_BAR);
+}
+
+/// The row gets another name.
+fn renaming(race: &Race, table: &Columns, row: usize) -> Times {
+    race.time_edit(table, |engine, edited| engine.rename(edited, table.key[row], 9))
 }
 
 /// The piece comes in under the parent.

@@ -48,7 +48,7 @@ fn inverse(odd: u32) -> u32 {
 
 #[cfg(test)]
 mod tests {
-    use super::{bucket, inverse, key_of, number_of, width, BUCKETS, LOW_FACTOR};
+    use super::{bucket, buckets, inverse, key_of, number_of, width, BUCKETS, LOW_FACTOR};
     use crate::scattered_key;
 
     #[test]
@@ -65,6 +65,35 @@ mod tests {
             assert_eq!(bucket(key_of(u32::MAX, 7), buckets), buckets - 1);
             assert_eq!(bucket(key_of(width(buckets) as u32, 7), buckets), 1);
             assert_eq!(bucket(key_of(width(buckets) as u32 - 1, 7), buckets), 0);
+        }
+    }
+
+    /// How many earlier keys a key meets in its bucket, on average.
+    fn met(keys: impl ExactSizeIterator<Item = usize>) -> f64 {
+        let rows = keys.len();
+        let mut filled = vec![0; buckets(rows)];
+        let mut met = 0;
+        for key in keys {
+            let own = &mut filled[bucket(key, buckets(rows))];
+            met += *own;
+            *own += 1;
+        }
+        f64::from(met) / rows as f64
+    }
+
+    #[test]
+    fn ordinary_keys_spread_over_the_buckets() {
+        for rows in [64, 512, 4_096] {
+            let powers = (0..=50).map(|bits| 1 << bits);
+            for step in powers.chain([3, 5, 7, 10, 100, 1_000, 100_000, (1 << 32) + 1]) {
+                assert!(met((0..rows).map(|row| (row + 1) * step)) < 1.0, "{rows} rows, {step}");
+            }
+            // A turbine's number, then the row's within it.
+            for turbine in [1_000, 1 << 16, 1 << 32, 1 << 48] {
+                let key = |row: usize| (row / 64 + 1) * turbine + row % 64 + 1;
+                assert!(met((0..rows).map(key)) < 1.0, "{rows} rows, turbines by {turbine}");
+            }
+            assert!(met((0..rows).map(scattered_key)) < 0.2, "{rows} rows");
         }
     }
 }
