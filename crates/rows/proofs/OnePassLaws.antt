@@ -104,7 +104,7 @@ module _ (t : Table) (u : InUse t) where
     sizes = λ j l. absurd (not-suc-le-zero l);
   }
 
-  -- row i fits
+  -- row i fits where it stands
   module _ (ends : List ℕ) (most i : ℕ) (l : i < t .count) (f : Followed t ends most i)
       (e : fitsIn ends most i (at (t .level) i) (at (t .size) i) ≡ true) where
     abbrev own : ℕ
@@ -116,7 +116,7 @@ module _ (t : Table) (u : InUse t) where
     w : Standing ends most i own held
     w = standing ends most i own held e
 
-    -- its end is known without overflow
+    -- it ends with the table at the latest, so no sum overflows
     pub row-ends : (own ≤ 63) × (i + held < t .count)
     row-ends = (
       w .high,
