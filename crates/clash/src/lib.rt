@@ -4,8 +4,8 @@ ghost use Prim.Native.Nat.{_≤_};
 ghost use lib.ListN.{length};
 ghost use Rattle.keys.specs.Chain.{ChainRoom, Chained};
 ghost use Rattle.clash.specs.FirstClash.{firstClash};
-use keys::fresh;
 use keys::link;
+use keys::row_in;
 use keys::row_of;
 
 // Chains the first n rows, without a test of their keys.
@@ -57,7 +57,7 @@ fn clash_in(
     chain(key, n, heads, next, shift);
     let mut i = 0;
     while i < m {
-        if !fresh(key, n, piece[i], heads, next, shift) {
+        if row_in(key, n, piece[i], heads, next, shift) < n {
             return i;
         }
         i += 1;

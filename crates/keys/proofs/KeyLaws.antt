@@ -1,12 +1,12 @@
--- The walk along a chain finds a repeated key: `walk-start`, `walk-step`, `walk-less`, and its ends `fresh-true`,
--- `fresh-false`. Chains start empty and grow by a row: `cleared`, `chained-more`. These hold however many buckets there
+-- The walk along a chain finds the row of a key: `walk-start`, `walk-step`, `walk-hit`, `walk-less`, and at its end
+-- `walk-end`. Chains start empty and grow by a row: `cleared`, `chained-more`. These hold however many buckets there
 -- are. A bucket is one of them: `bucket-lt`. The test of a key: `key-zero`, `key-again`, `key-good`. Assumes nothing.
 use mathlib.Core.Path.{_≡_, refl, sym, ap, subst, _∙_}
-use mathlib.Core.Logic.{_⊎_, inl, inr}
+use mathlib.Core.Logic.{_⊎_, inl, inr, ⊎-elim}
 use mathlib.Core.Bool.{Bool, true, false, not}
 use mathlib.Core.List.{List}
 use Prim.Native.Nat.{ℕ, suc, _+_, _-_, _^_, _<_, _≤_}
-use native.Mathlib.Nat.{le-refl, le-of-suc-le-suc, eq-or-lt-of-le, not-suc-le-zero, lt-of-lt-of-le, mod-lt}
+use native.Mathlib.Nat.{le-refl, le-of-suc-le-suc, eq-or-lt-of-le, not-suc-le-zero, lt-of-lt-of-le, le-antisymm, mod-lt}
 use native.Mathlib.Numerals.{add-one}
 use native.Mathlib.Omega.{arith}
 use borrow.Author.Tests.{eqb-true, eqb-false, eq-eqb, ne-eqb, ltb-true, ltb-false}
@@ -17,7 +17,7 @@ use lib.Seq.{getD-set-same, getD-set-other}
 use Rattle.tree.specs.Search.{least, nearest}
 use Rattle.tree.specs.Table.{mostRows, at}
 use Rattle.tree.specs.Sound.{rowOf, keyOk}
-use Rattle.tree.proofs.SearchLaws.{least-none, least-hit-le, nearest-le, nearest-skip, nearest-in}
+use Rattle.tree.proofs.SearchLaws.{least-none, least-at, least-le, nearest-le, nearest-skip, nearest-in}
 use Rattle.keys.specs.Chain.{spreadOf, bucketsOf, bucketOf, lastIn, ChainRoom, Chained}
 
 pub spread-lt : (x : ℕ) → spreadOf x < 2 ^ 32
@@ -109,9 +109,14 @@ module _ (shift : ℕ) where
     },
   )
 
-  pub fresh-true : (key : List ℕ) (x i r : ℕ) → r ≤ 0 → Walk key x i r → eqb (rowOf key i x) i ≡ true
+  -- the walk has come to its end: the row kept is the least that has the key
+  pub walk-end : (key : List ℕ) (x n row r : ℕ) → r ≤ 0 → row ≤ n → (row < n → at key row ≡ x) → Walk key x row r
+      → row ≡ rowOf key n x
   unfolding rowOf
-  fresh-true key x i r z w = eq-eqb _ _ (least-none _ i (λ k l. ne-eqb _ _ (w .passed k (omega arith) l)))
+  walk-end key x n row r z l hit w = ⊎-elim
+      (λ e. e ∙ sym (least-none _ n (λ k m. ne-eqb _ _ (w .passed k (omega arith) (omega arith)))))
+      (λ m. sym (least-at _ n row m (λ k q. ne-eqb _ _ (w .passed k (omega arith) q)) (eq-eqb _ _ (hit m))))
+      (eq-or-lt-of-le l)
 
   pub walk-start : (key heads next : List ℕ) (i x b : ℕ) → shift ≤ 32 → Chained shift key heads next i
       → b ≡ bucketOf shift x → Walk key x i (at heads b)
@@ -119,44 +124,37 @@ module _ (shift : ℕ) where
       rw (e, h .heads-at (bucketOf shift x) (bucket-lt x p))
       (walk key x i i (le-refl i) (λ k l m q. absurd (omega arith)))
 
-  -- the row before r has another key: on along the chain
-  module _ (key heads next : List ℕ) (i x r : ℕ) (h : Chained shift key heads next i) (w : Walk key x i r)
-      (p : 0 < r) where
+  -- on along the chain: with the row kept, where the row before r has another key, or with that row
+  module _ (key heads next : List ℕ) (n x row r : ℕ) (h : Chained shift key heads next n) (l : row ≤ n)
+      (w : Walk key x row r) (p : 0 < r) where
     next-is : at next (r - 1) ≡ lastIn shift key (bucketOf shift x) (r - 1)
     next-is =
-        let l = w .within in
-        h .next-at (r - 1) (omega arith)
+        h .next-at (r - 1) (omega (arith, w .within))
         ∙ ap (λ (b : ℕ). lastIn shift key b (r - 1)) (w .chained (r - 1) (omega arith))
 
     pub walk-less : at next (r - 1) < r
     walk-less = rw next-is (omega (arith, last-le key (bucketOf shift x) (r - 1)))
 
-    pub walk-step : (at key (r - 1) ≡ x → ⊥) → Walk key x i (at next (r - 1))
+    pub walk-step : (at key (r - 1) ≡ x → ⊥) → Walk key x row (at next (r - 1))
     walk-step ne =
-        let l = w .within in
-        rw next-is (walk key x i (r - 1) (omega arith) (λ k u v e. on k u v e (eq-or-lt-of-le u)))
+        rw next-is (walk key x row (r - 1) (omega (arith, w .within)) (λ k u v e. on k u v e (eq-or-lt-of-le u)))
       where
-        on : (k : ℕ) → r - 1 ≤ k → k < i → at key k ≡ x → (r - 1 ≡ k) ⊎ (r - 1 < k) → ⊥
+        on : (k : ℕ) → r - 1 ≤ k → k < row → at key k ≡ x → (r - 1 ≡ k) ⊎ (r - 1 < k) → ⊥
         on k u v e (inl q) = ne (ap (λ (m : ℕ). at key m) q ∙ e)
         on k u v e (inr q) = w .passed k (omega arith) v e
 
-pub fresh-false : (key : List ℕ) (x i j : ℕ) → j < i → at key j ≡ x → eqb (rowOf key i x) i ≡ false
-unfolding rowOf
-fresh-false key x i j l e =
-    let h = least-hit-le (λ k. eqb (at key k) x) i j (eq-eqb _ _ e) in
-    ne-eqb (least (λ k. eqb (at key k) x) i) i (λ p. absurd (omega arith))
+    pub walk-hit : Walk key x (r - 1) (at next (r - 1))
+    walk-hit = rw next-is (walk key x (r - 1) (r - 1) (le-refl _) (λ k u v e. absurd (omega arith)))
 
 -- the three ends of the test of a key
 pub key-zero : (key : List ℕ) (i : ℕ) → at key i ≡ 0 → keyOk key i ≡ false
 unfolding keyOk
 key-zero key i e = rw e
 
-pub key-again : (key : List ℕ) (i : ℕ) → (at key i ≡ 0 → ⊥) → eqb (rowOf key i (at key i)) i ≡ false
-    → keyOk key i ≡ false
+pub key-again : (key : List ℕ) (i : ℕ) → (at key i ≡ 0 → ⊥) → rowOf key i (at key i) < i → keyOk key i ≡ false
 unfolding keyOk
-key-again key i n e = simp (ne-eqb _ _ n, e)
+key-again key i n l = simp (ne-eqb _ _ n, ne-eqb (rowOf key i (at key i)) i (λ e. absurd (omega arith)))
 
-pub key-good : (key : List ℕ) (i : ℕ) → (at key i ≡ 0 → ⊥) → eqb (rowOf key i (at key i)) i ≡ true
-    → keyOk key i ≡ true
-unfolding keyOk
-key-good key i n e = simp (ne-eqb _ _ n, e)
+pub key-good : (key : List ℕ) (i : ℕ) → (at key i ≡ 0 → ⊥) → i ≤ rowOf key i (at key i) → keyOk key i ≡ true
+unfolding keyOk rowOf
+key-good key i n l = simp (ne-eqb _ _ n, eq-eqb _ _ (le-antisymm (least-le _ i) l))

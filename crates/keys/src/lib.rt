@@ -58,23 +58,24 @@ fn bucket(x: usize, shift: usize) -> usize
     spread(x) >> shift
 }
 
-// Whether no row below i has the key x: a walk along the chain of x's bucket.
-pub fn fresh(key: &[usize], i: usize, x: usize, heads: &[u16], next: &[u16], shift: usize) -> bool
-    requires { ⌜ i ≤ length (now key) ⌝ }
-    requires { ⌜ ChainRoom (now heads) (now next) shift i ⌝ }
-    requires { ⌜ Chained shift (now key) (now heads) (now next) i ⌝ }
-    ensures { λ r. ⌜ r ≡ eqb (rowOf (now (key .entry)) i x) i ⌝ }
+// The least of the first n rows with the key x, or n: a walk along the chain of x's bucket, which leads back.
+pub fn row_in(key: &[usize], n: usize, x: usize, heads: &[u16], next: &[u16], shift: usize) -> usize
+    requires { ⌜ n ≤ length (now key) ⌝ }
+    requires { ⌜ ChainRoom (now heads) (now next) shift n ⌝ }
+    requires { ⌜ Chained shift (now key) (now heads) (now next) n ⌝ }
+    ensures { λ r. ⌜ r ≡ rowOf (now (key .entry)) n x ⌝ }
 {
     let b = bucket(x, shift);
+    let mut row = n;
     let mut r = heads[b] as usize;
     while 0 < r {
         let j = r - 1;
         if key[j] == x {
-            return false;
+            row = j;
         }
         r = next[j] as usize;
     }
-    true
+    row
 }
 
 // Chains row i behind the last row of its key's bucket.
@@ -101,7 +102,7 @@ pub fn enter(key: &[usize], i: usize, heads: &mut [u16], next: &mut [u16], shift
     if x == 0 {
         return false;
     }
-    if !fresh(key, i, x, heads, next, shift) {
+    if row_in(key, i, x, heads, next, shift) < i {
         return false;
     }
     link(key, i, heads, next, shift);

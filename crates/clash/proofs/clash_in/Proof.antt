@@ -1,16 +1,15 @@
 -- `clash::clash_in` meets its contract: all n rows are chained, and no key of the piece's rows below i is taken.
 -- Assumes nothing.
 use Prim.Native.Nat.{ℕ, _≤_, _<_, _-_}
-use mathlib.Core.Path.{_≡_, sym, _∙_}
+use mathlib.Core.Path.{_≡_, sym}
 use mathlib.Core.Bool.{false}
 use lib.Dec.{ltb}
 use borrow.Author.Count.{below-more, below-none}
-use borrow.Author.Tests.{not-true, not-false}
+use borrow.Author.Tests.{lt-ltb, le-ltb}
 use Rattle.tree.specs.Table.{at}
 use Rattle.tree.specs.Sound.{rowOf}
 use Rattle.tree.proofs.SearchLaws.{least-at, least-end}
 use Rattle.keys.specs.Chain.{ChainRoom, Chained}
-use Rattle.clash.proofs.ClashLaws.{clash-taken, clash-none}
 use borrow.Author.Needs.{needs}
 use Rattle.clash.proofs.clash_in.Statement.{statement}
 use Rattle.clash.proofs.clash_in.Tie as tie
@@ -29,14 +28,14 @@ chain-requires c κs = search needs
 loop-holds : tie.Need-loop-holds Inv-loop μ-loop
 loop-holds c = (search needs, search needs, c .before .before .before .before .chain .ensures, below-none _)
 
-mul-fresh : tie.Need-mul-fresh Inv-loop μ-loop
-mul-fresh c = search needs
+mul-row-in : tie.Need-mul-row-in Inv-loop μ-loop
+mul-row-in c = search needs
 
-shared-slice-read-fresh : tie.Need-shared-slice-read-fresh Inv-loop μ-loop
-shared-slice-read-fresh c = search needs
+shared-slice-read-row-in : tie.Need-shared-slice-read-row-in Inv-loop μ-loop
+shared-slice-read-row-in c = search needs
 
-fresh-requires : tie.Need-fresh-requires Inv-loop μ-loop
-fresh-requires c κs = search needs
+row-in-requires : tie.Need-row-in-requires Inv-loop μ-loop
+row-in-requires c κs = search needs
 
 same-length : tie.Need-same-length Inv-loop μ-loop
 same-length c = search needs
@@ -48,7 +47,7 @@ returns : tie.Need-returns Inv-loop μ-loop
 returns c =
     let body = c .before .before .before .before .before in
     sym (least-at _ _ _ (body .loop-test .taken) (body .before .loop .inv .3)
-    (clash-taken _ _ _ (sym (c .before .fresh .ensures) ∙ not-true (c .before .fresh .result) (c .if1 .taken))))
+    (rw (← c .before .row-in .ensures) (lt-ltb _ _ (c .if1 .taken))))
 
 add-i : tie.Need-add-i Inv-loop μ-loop
 add-i c = search needs
@@ -62,8 +61,7 @@ loop-again c =
       search needs,
       at .inv .1,
       at .inv .2,
-      below-more _ _ (at .inv .3)
-          (clash-none _ _ _ (sym (c .before .fresh .ensures) ∙ not-false (c .before .fresh .result) (c .if1 .left))),
+      below-more _ _ (at .inv .3) (rw (← c .before .row-in .ensures) (le-ltb _ _ (c .if1 .left))),
     )
 
 same-length-3 : tie.Need-same-length-3 Inv-loop μ-loop
@@ -83,9 +81,9 @@ clash-in-spec =
     μ-loop
     chain-requires
     loop-holds
-    mul-fresh
-    shared-slice-read-fresh
-    fresh-requires
+    mul-row-in
+    shared-slice-read-row-in
+    row-in-requires
     same-length
     same-length-2
     returns

@@ -1,7 +1,6 @@
 -- `keys::enter` meets its contract: the key is 0, or a walk along its chain says whether it is new. Assumes nothing.
-use mathlib.Core.Path.{sym, _∙_}
+use mathlib.Core.Path.{sym}
 use mathlib.Core.Bool.{true≢false}
-use borrow.Author.Tests.{not-true, not-false}
 use Rattle.keys.proofs.KeyLaws.{key-zero, key-again, key-good}
 use borrow.Author.Needs.{needs}
 use Rattle.keys.proofs.enter.Statement.{statement}
@@ -16,8 +15,8 @@ shared-slice-read-x c = search needs
 returns : tie.Need-returns
 returns c = (sym (key-zero _ _ (c .if1 .taken)), λ e. absurd (true≢false (sym e)))
 
-fresh-requires : tie.Need-fresh-requires
-fresh-requires c κs = (
+row-in-requires : tie.Need-row-in-requires
+row-in-requires c κs = (
   search needs,
   (
     record {
@@ -38,8 +37,7 @@ same-length-2 c = search needs
 
 returns-2 : tie.Need-returns-2
 returns-2 c = (
-  sym (key-again _ _ (c .before .before .before .before .if1 .left)
-      (sym (c .before .fresh .ensures) ∙ not-true (c .before .fresh .result) (c .if2 .taken))),
+  sym (key-again _ _ (c .before .before .before .before .if1 .left) (rw (← c .before .row-in .ensures) (c .if2 .taken))),
   λ e. absurd (true≢false (sym e)),
 )
 
@@ -57,7 +55,7 @@ returns-3 c =
     let linked = c .before .before .before .before in
     let tested = linked .before .before .before in (
       sym (key-good _ _ (tested .before .before .before .before .if1 .left)
-          (sym (tested .before .fresh .ensures) ∙ not-false (tested .before .fresh .result) (tested .if2 .left))),
+          (rw (← tested .before .row-in .ensures) (tested .if2 .left))),
       λ _. linked .link .ensures,
     )
 
@@ -68,7 +66,7 @@ enter-spec =
     mul-x
     shared-slice-read-x
     returns
-    fresh-requires
+    row-in-requires
     same-length
     same-length-2
     returns-2
