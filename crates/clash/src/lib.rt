@@ -17,8 +17,7 @@ fn chain(key: &[usize], n: usize, heads: &mut [u16], next: &mut [u16], shift: us
 {
     let mut i = 0;
     while i < n {
-        link(key, i, heads, next, shift);
-        i += 1;
+        i = link(key, i, heads, next, shift);
     }
 }
 
@@ -72,15 +71,25 @@ fn clash_by_chains(key: &[usize], n: usize, piece: &[usize], m: usize) -> usize
     requires { ⌜ m ≤ length (now piece) ⌝ }
     ensures { λ r. ⌜ r ≡ firstClash (now (key .entry)) n (now (piece .entry)) m ⌝ }
 {
+    if n <= 16 {
+        let mut heads = [0u16; 64];
+        let mut next = [0u16; 16];
+        return clash_in(key, n, piece, m, &mut heads, &mut next, 26);
+    }
     if n <= 64 {
         let mut heads = [0u16; 256];
         let mut next = [0u16; 64];
         return clash_in(key, n, piece, m, &mut heads, &mut next, 24);
     }
-    if n <= 512 {
-        let mut heads = [0u16; 2048];
-        let mut next = [0u16; 512];
-        return clash_in(key, n, piece, m, &mut heads, &mut next, 21);
+    if n <= 256 {
+        let mut heads = [0u16; 1024];
+        let mut next = [0u16; 256];
+        return clash_in(key, n, piece, m, &mut heads, &mut next, 22);
+    }
+    if n <= 1024 {
+        let mut heads = [0u16; 4096];
+        let mut next = [0u16; 1024];
+        return clash_in(key, n, piece, m, &mut heads, &mut next, 20);
     }
     let mut heads = [0u16; 16384];
     let mut next = [0u16; 4096];

@@ -1,16 +1,16 @@
 -- The walk along a chain finds the row of a key: `walk-start`, `walk-step`, `walk-hit`, `walk-less`, and at its end
--- `walk-end`. Chains start empty and grow by a row: `cleared`, `chained-more`. These hold however many buckets there
--- are. A bucket is one of them: `bucket-lt`. The test of a key: `key-zero`, `key-again`, `key-good`. Assumes nothing.
+-- `walk-end`. Chains start empty and grow by a row: `cleared`, `room-for`, `chained-more`. These hold however many
+-- buckets there are. A bucket is one of them: `bucket-lt`. The test of a key: `key-zero`, `key-new`. Assumes nothing.
 use mathlib.Core.Path.{_≡_, refl, sym, ap, subst, _∙_}
 use mathlib.Core.Logic.{_⊎_, inl, inr, ⊎-elim}
 use mathlib.Core.Bool.{Bool, true, false, not}
 use mathlib.Core.List.{List}
 use Prim.Native.Nat.{ℕ, suc, _+_, _-_, _^_, _<_, _≤_}
-use native.Mathlib.Nat.{le-refl, le-of-suc-le-suc, eq-or-lt-of-le, not-suc-le-zero, lt-of-lt-of-le, le-antisymm, mod-lt}
+use native.Mathlib.Nat.{le-refl, le-of-suc-le-suc, eq-or-lt-of-le, not-suc-le-zero, lt-of-lt-of-le, mod-lt}
 use native.Mathlib.Numerals.{add-one}
 use native.Mathlib.Omega.{arith}
-use borrow.Author.Tests.{eqb-true, eqb-false, eq-eqb, ne-eqb, ltb-true, ltb-false}
-use lib.Dec.{eqb, ltb, lit<}
+use borrow.Author.Tests.{eqb-true, eqb-false, eq-eqb, ne-eqb, le-leb, lt-leb, ltb-true, ltb-false}
+use lib.Dec.{eqb, leb, ltb, lit<}
 use lib.ListN.{length, getD, set, replicate, getD-replicate, length-replicate}
 use lib.Pow.{shr-lt}
 use lib.Seq.{getD-set-same, getD-set-other}
@@ -20,7 +20,7 @@ use Rattle.tree.specs.Sound.{rowOf, keyOk}
 use Rattle.tree.proofs.SearchLaws.{least-none, least-at, least-le, nearest-le, nearest-skip, nearest-in}
 use Rattle.keys.specs.Chain.{spreadOf, bucketsOf, bucketOf, lastIn, ChainRoom, Chained}
 
-pub spread-lt : (x : ℕ) → spreadOf x < 2 ^ 32
+spread-lt : (x : ℕ) → spreadOf x < 2 ^ 32
 unfolding spreadOf
 spread-lt x = mod-lt _ (lit< tt)
 
@@ -52,7 +52,7 @@ module _ (shift : ℕ) where
   last-in key b m j e = eqb-true _ _ (nearest-in (λ j. eqb (bucketOf shift (at key j)) b) m j e)
 
   -- from rows m on, below i, none has x: so the walk may stand at the last row below m in x's bucket
-  pub walk : (key : List ℕ) (x i m : ℕ) → m ≤ i → ((k : ℕ) → m ≤ k → k < i → at key k ≡ x → ⊥)
+  walk : (key : List ℕ) (x i m : ℕ) → m ≤ i → ((k : ℕ) → m ≤ k → k < i → at key k ≡ x → ⊥)
       → Walk key x i (lastIn shift key (bucketOf shift x) m)
   walk key x i m l h = record {
     within = omega (arith, last-le key (bucketOf shift x) m);
@@ -109,6 +109,16 @@ module _ (shift : ℕ) where
     },
   )
 
+  -- room for some of the rows, in columns that are as long as before
+  pub room-for : (heads next heads₀ next₀ : List ℕ) (m n : ℕ) → ChainRoom heads₀ next₀ shift n
+      → length heads ≡ length heads₀ → length next ≡ length next₀ → m ≤ n → ChainRoom heads next shift m
+  room-for heads next heads₀ next₀ m n r p q l = record {
+    low = r .low;
+    heads-long = rw p (r .heads-long);
+    next-long = omega (arith, r .next-long);
+    small = omega (arith, r .small);
+  }
+
   -- the walk has come to its end: the row kept is the least that has the key
   pub walk-end : (key : List ℕ) (x n row r : ℕ) → r ≤ 0 → row ≤ n → (row < n → at key row ≡ x) → Walk key x row r
       → row ≡ rowOf key n x
@@ -146,15 +156,17 @@ module _ (shift : ℕ) where
     pub walk-hit : Walk key x (r - 1) (at next (r - 1))
     walk-hit = rw next-is (walk key x (r - 1) (r - 1) (le-refl _) (λ k u v e. absurd (omega arith)))
 
--- the three ends of the test of a key
+-- the two ends of the test of a key
 pub key-zero : (key : List ℕ) (i : ℕ) → at key i ≡ 0 → keyOk key i ≡ false
 unfolding keyOk
 key-zero key i e = rw e
 
-pub key-again : (key : List ℕ) (i : ℕ) → (at key i ≡ 0 → ⊥) → rowOf key i (at key i) < i → keyOk key i ≡ false
-unfolding keyOk
-key-again key i n l = simp (ne-eqb _ _ n, ne-eqb (rowOf key i (at key i)) i (λ e. absurd (omega arith)))
+at-most-is : (i r : ℕ) → r ≤ i → leb i r ≡ eqb r i
+at-most-is i r l = ⊎-elim
+    (λ e. rw e (le-leb i i (le-refl i) ∙ sym (eq-eqb i i refl)))
+    (λ m. lt-leb i r m ∙ sym (ne-eqb r i (λ e. absurd (omega arith))))
+    (eq-or-lt-of-le l)
 
-pub key-good : (key : List ℕ) (i : ℕ) → (at key i ≡ 0 → ⊥) → i ≤ rowOf key i (at key i) → keyOk key i ≡ true
+pub key-new : (key : List ℕ) (i : ℕ) → (at key i ≡ 0 → ⊥) → leb i (rowOf key i (at key i)) ≡ keyOk key i
 unfolding keyOk rowOf
-key-good key i n l = simp (ne-eqb _ _ n, eq-eqb _ _ (le-antisymm (least-le _ i) l))
+key-new key i n = simp (ne-eqb _ _ n) (at-most-is i _ (least-le _ i))

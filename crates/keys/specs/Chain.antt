@@ -1,5 +1,5 @@
--- Rows chained by the bucket of their key, by which a repeated key is found, for any power of two of buckets. No public
--- contract cites it. Assumes nothing.
+-- Rows chained by the bucket of their key, by which a repeated key is found, for any power of two of buckets. No
+-- contract of an entry point cites it. Assumes nothing.
 use mathlib.Core.Path.{_≡_}
 use mathlib.Core.List.{List}
 use Prim.Native.Nat.{ℕ, _+_, _-_, _*_, _/_, _%_, _^_, _<_, _≤_}

@@ -2,7 +2,7 @@
 // for none: `heads` has for each bucket a link to its last row, `next` for each row a link to the row before it in its
 // bucket.
 ghost use mathlib.Core.Path.{_≡_};
-ghost use mathlib.Core.Bool.{true, false};
+ghost use mathlib.Core.Bool.{false};
 ghost use Prim.Native.Nat.{ℕ, _+_, _<_, _≤_};
 ghost use lib.ListN.{length};
 ghost use lib.Dec.{eqb};
@@ -78,35 +78,34 @@ pub fn row_in(key: &[usize], n: usize, x: usize, heads: &[u16], next: &[u16], sh
     row
 }
 
-// Chains row i behind the last row of its key's bucket.
-pub fn link(key: &[usize], i: usize, heads: &mut [u16], next: &mut [u16], shift: usize)
+// Whether the key of row i is good: neither 0 nor that of an earlier row.
+pub fn key_ok(key: &[usize], i: usize, heads: &[u16], next: &[u16], shift: usize) -> bool
     requires { ⌜ i < length (now key) ⌝ }
-    requires { ⌜ ChainRoom (now heads) (now next) shift (i + 1) ⌝ }
-    requires { ⌜ Chained shift (now key) (now heads) (now next) i ⌝ }
-    ensures { λ _. ⌜ Chained shift (now (key .entry)) (now (heads .exit)) (now (next .exit)) (i + 1) ⌝ }
-{
-    let b = bucket(key[i], shift);
-    next[i] = heads[b];
-    heads[b] = (i + 1) as u16;
-}
-
-// Whether the key of row i is good: neither 0 nor that of an earlier row. Then the row is chained too.
-pub fn enter(key: &[usize], i: usize, heads: &mut [u16], next: &mut [u16], shift: usize) -> bool
-    requires { ⌜ i < length (now key) ⌝ }
-    requires { ⌜ ChainRoom (now heads) (now next) shift (i + 1) ⌝ }
+    requires { ⌜ ChainRoom (now heads) (now next) shift i ⌝ }
     requires { ⌜ Chained shift (now key) (now heads) (now next) i ⌝ }
     ensures { λ r. ⌜ r ≡ keyOk (now (key .entry)) i ⌝ }
-    ensures { λ r. ⌜ (r ≡ true → Chained shift (now (key .entry)) (now (heads .exit)) (now (next .exit)) (i + 1)) ⌝ }
 {
     let x = key[i];
     if x == 0 {
         return false;
     }
-    if row_in(key, i, x, heads, next, shift) < i {
-        return false;
-    }
-    link(key, i, heads, next, shift);
-    true
+    i <= row_in(key, i, x, heads, next, shift)
+}
+
+// Chains row i behind the last row of its key's bucket, and answers how many rows are chained then. Whoever counts on
+// with the answer adds 1 once for both.
+pub fn link(key: &[usize], i: usize, heads: &mut [u16], next: &mut [u16], shift: usize) -> usize
+    requires { ⌜ i < length (now key) ⌝ }
+    requires { ⌜ ChainRoom (now heads) (now next) shift (i + 1) ⌝ }
+    requires { ⌜ Chained shift (now key) (now heads) (now next) i ⌝ }
+    ensures { λ r. ⌜ r ≡ i + 1 ⌝ }
+    ensures { λ _. ⌜ Chained shift (now (key .entry)) (now (heads .exit)) (now (next .exit)) (i + 1) ⌝ }
+{
+    let b = bucket(key[i], shift);
+    let chained = i + 1;
+    next[i] = heads[b];
+    heads[b] = chained as u16;
+    chained
 }
 
 // The least of the first n rows whose key is not good, or n. No row is chained at first; the rows before the answer are
@@ -119,29 +118,40 @@ fn first_in(key: &[usize], n: usize, heads: &mut [u16], next: &mut [u16], shift:
 {
     let mut i = 0;
     while i < n {
-        if !enter(key, i, heads, next, shift) {
+        if !key_ok(key, i, heads, next, shift) {
             return i;
         }
-        i += 1;
+        i = link(key, i, heads, next, shift);
     }
     i
 }
 
-// The same in columns of its own, cleared at each call and so no longer than the rows ask for. The time is that of the
-// rows, on keys that spread over the buckets; on others it grows with the longest chain.
+// The same in columns of its own, cleared at each call and so no longer than the rows ask for: the least power of four
+// that holds them, and four buckets for each row, which are 2^(32 - shift). The time is that of the rows, on keys that
+// spread over the buckets; on others it grows with the longest chain.
 pub fn first_key(key: &[usize], n: usize) -> usize
     requires { ⌜ (n ≤ 4096) × (n ≤ length (now key)) ⌝ }
     ensures { λ r. ⌜ r ≡ firstKey (now (key .entry)) n ⌝ }
 {
+    if n <= 16 {
+        let mut heads = [0u16; 64];
+        let mut next = [0u16; 16];
+        return first_in(key, n, &mut heads, &mut next, 26);
+    }
     if n <= 64 {
         let mut heads = [0u16; 256];
         let mut next = [0u16; 64];
         return first_in(key, n, &mut heads, &mut next, 24);
     }
-    if n <= 512 {
-        let mut heads = [0u16; 2048];
-        let mut next = [0u16; 512];
-        return first_in(key, n, &mut heads, &mut next, 21);
+    if n <= 256 {
+        let mut heads = [0u16; 1024];
+        let mut next = [0u16; 256];
+        return first_in(key, n, &mut heads, &mut next, 22);
+    }
+    if n <= 1024 {
+        let mut heads = [0u16; 4096];
+        let mut next = [0u16; 1024];
+        return first_in(key, n, &mut heads, &mut next, 20);
     }
     let mut heads = [0u16; 16384];
     let mut next = [0u16; 4096];

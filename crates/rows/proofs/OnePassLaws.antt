@@ -3,18 +3,18 @@
 -- Assumes nothing.
 use mathlib.Core.Path.{_≡_, refl, ap, _∙_}
 use mathlib.Core.Logic.{_⊎_, inl, inr, ⊎-elim}
-use mathlib.Core.Bool.{true, false, not, _&&_}
+use mathlib.Core.Bool.{Bool, true, false, not, _&&_}
 use mathlib.Core.List.{List}
 use Prim.Native.Nat.{ℕ, _+_, _-_, _<_, _≤_}
 use native.Mathlib.Nat.{le-refl, le-of-suc-le-suc, eq-or-lt-of-le, not-suc-le-zero}
 use native.Mathlib.Numerals.{add-one}
 use native.Mathlib.Omega.{arith}
 use native.Mathlib.Decide.{decLt}
-use borrow.Author.Tests.{leb-true, ltb-true, eq-eqb, lt-leb, le-leb}
-use lib.Dec.{leb, ltb}
-use lib.ListN.{length, set, length-set}
+use borrow.Author.Tests.{leb-true, ltb-true, eqb-true, eqb-false, eq-eqb, lt-leb, le-leb}
+use lib.Dec.{eqb, leb, ltb, lit<}
+use lib.ListN.{length, set, length-set, replicate, getD-replicate}
 use lib.Seq.{getD-set-same, getD-set-other}
-use Rattle.tree.specs.Table.{Table, at}
+use Rattle.tree.specs.Table.{Table, mostRows, at}
 use Rattle.tree.specs.Sound.{sizeOf, sizeOk, levelOk, kindOk, nameOk, keyOk, besideKeyOk, rowOk, firstBad}
 use Rattle.tree.specs.Rules.{InUse}
 use Rattle.tree.proofs.SearchLaws.{least-none, least-at}
@@ -69,7 +69,7 @@ standing ends most i own held e =
 record Unfinished (size level ends : List ℕ) (i most j : ℕ) : Type 0 where
   deep : (k : ℕ) → j < k → k < i → at level j < at level k
   under : at level j < most
-  stands : at ends (at level j + 1) ≡ j + at size j + 1
+  stands : at ends (at level j + 1) ≡ j + 1 + at size j
 
 -- row j keeps the rules of level, kind and name
 record Kept (t : Table) (j : ℕ) : Type 0 where
@@ -77,10 +77,11 @@ record Kept (t : Table) (j : ℕ) : Type 0 where
   others : (kindOk (at (t .kind) j) (at (t .size) j) (at (t .level) j)
       && nameOk (at (t .kind) j) (at (t .name) j)) ≡ true
 
--- no end up to most is before i, and a deeper one is no later
+-- no end is behind the table, none up to most is before i, and a deeper one is no later
 pub record Followed (t : Table) (ends : List ℕ) (most i : ℕ) : Type 0 where
   pub low : most < 65
   pub places : length ends ≡ 65
+  pub short : (l : ℕ) → l < 65 → at ends l ≤ mostRows
   pub ahead : (l : ℕ) → l ≤ most → i ≤ at ends l
   whole : at ends 0 ≡ t .count
   falls : (l m : ℕ) → l ≤ m → m ≤ most → at ends m ≤ at ends l
@@ -90,19 +91,33 @@ pub record Followed (t : Table) (ends : List ℕ) (most i : ℕ) : Type 0 where
   sizes : (j : ℕ) → j < i
       → (at (t .size) j ≡ sizeOf (t .level) (t .count) j) ⊎ Unfinished (t .size) (t .level) ends i most j
 
+-- another end that is not behind the table
+ends-short : (ends : List ℕ) (k v : ℕ) → k < length ends → v ≤ mostRows → ((l : ℕ) → l < 65 → at ends l ≤ mostRows)
+    → (l : ℕ) → l < 65 → at (set ends k v) l ≤ mostRows
+ends-short ends k v p q h l m = go (eqb l k) refl
+  where
+    go : (b : Bool) → eqb l k ≡ b → at (set ends k v) l ≤ mostRows
+    go true e = rw (eqb-true l k e, getD-set-same ends k v 0 p) q
+    go false e = rw (getD-set-other ends k l v 0 (eqb-false l k e)) (h l m)
+
 module _ (t : Table) (u : InUse t) where
-  pub followed-start : (ends : List ℕ) → length ends ≡ 65 → Followed t (set ends 0 (t .count)) 0 0
-  followed-start ends p = record {
+  pub followed-start : Followed t (set (replicate 65 0) 0 (t .count)) 0 0
+  followed-start = record {
     low = omega arith;
-    places = length-set ends 0 _ ∙ p;
+    places = refl;
+    short = ends-short none 0 (t .count) (lit< tt) (u .few)
+        (λ k q. rw (getD-replicate {A = ℕ} 65 k 0 0 q) (omega arith));
     ahead = λ l _. omega arith;
-    whole = getD-set-same ends 0 (t .count) 0 (omega arith);
+    whole = getD-set-same none 0 (t .count) 0 (lit< tt);
     falls = λ l m x y. let z : l ≡ m = omega arith in rw z (le-refl _);
     first = λ e. e;
     last = λ l. absurd (not-suc-le-zero l);
     kept = λ j l. absurd (not-suc-le-zero l);
     sizes = λ j l. absurd (not-suc-le-zero l);
   }
+    where
+      none : List ℕ
+      none = replicate 65 0
 
   -- row i fits where it stands
   module _ (ends : List ℕ) (most i : ℕ) (l : i < t .count) (f : Followed t ends most i)
@@ -124,9 +139,9 @@ module _ (t : Table) (u : InUse t) where
     )
 
     abbrev more : List ℕ
-    more = set ends (own + 1) (i + held + 1)
+    more = set ends (own + 1) (i + 1 + held)
 
-    own-end : (m : ℕ) → m ≡ own + 1 → at more m ≡ i + held + 1
+    own-end : (m : ℕ) → m ≡ own + 1 → at more m ≡ i + 1 + held
     own-end m r =
         ap (λ (k : ℕ). at more k) r ∙ getD-set-same ends (own + 1) _ 0 (omega (arith, f .places, w .high))
 
@@ -134,7 +149,7 @@ module _ (t : Table) (u : InUse t) where
     other-end m x = getD-set-other ends (own + 1) m _ 0 (λ r. absurd (omega arith))
 
     -- the ends above the row's own one are no earlier
-    above : (m : ℕ) → m ≤ own → i + held + 1 ≤ at ends m
+    above : (m : ℕ) → m ≤ own → i + 1 + held ≤ at ends m
     above m x = omega (arith, w .inside, f .falls m own x (w .near))
 
     -- row i ends an unfinished row that is no shallower, and leaves the others unfinished
@@ -155,10 +170,12 @@ module _ (t : Table) (u : InUse t) where
     ]
 
     pub followed-more : (kindOk (at (t .kind) i) held own && nameOk (at (t .kind) i) (at (t .name) i)) ≡ true
-        → Followed t (set ends (at (t .level) i + 1) (i + at (t .size) i + 1)) (at (t .level) i + 1) (i + 1)
+        → Followed t (set ends (at (t .level) i + 1) (i + 1 + at (t .size) i)) (at (t .level) i + 1) (i + 1)
     followed-more d = record {
       low = omega (arith, w .high);
       places = length-set ends (own + 1) _ ∙ f .places;
+      short = ends-short ends (own + 1) _ (omega (arith, f .places, w .high))
+          (omega (arith, row-ends .1, u .few)) (f .short);
       ahead = λ m x. ⊎-elim (λ r. omega (arith, own-end m r))
           (λ r. omega (arith, other-end m (omega arith), above m (omega arith))) (eq-or-lt-of-le x);
       whole = other-end 0 (omega arith) ∙ f .whole;

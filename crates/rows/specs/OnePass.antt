@@ -1,4 +1,4 @@
--- Where a row may stand while the levels are followed. No public contract cites it. Assumes nothing.
+-- Where a row may stand while the levels are followed. No contract of an entry point cites it. Assumes nothing.
 use mathlib.Core.Bool.{Bool, _&&_}
 use mathlib.Core.List.{List}
 use Prim.Native.Nat.{ℕ, _+_, _-_}

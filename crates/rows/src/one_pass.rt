@@ -3,7 +3,7 @@
 ghost use mathlib.Core.Path.{_≡_};
 ghost use mathlib.Core.Bool.{_&&_};
 ghost use Prim.Native.Nat.{ℕ, _<_, _≤_};
-ghost use Rattle.tree.specs.Table.{at, tableOf};
+ghost use Rattle.tree.specs.Table.{mostRows, at, tableOf};
 ghost use Rattle.tree.specs.Sound.{kindOk, nameOk, firstBad};
 ghost use Rattle.tree.specs.Rules.{InUse};
 ghost use Rattle.keys.specs.Chain.{ChainRoom, Chained};
@@ -12,8 +12,9 @@ use basics::both;
 
 // Whether a row of level own, with held rows below it, may stand at row i, where levels may be up to most: inside the
 // row it lies under, and after the end of the row of its own level before it.
-fn fits_in(ends: &[usize; 65], most: usize, i: usize, own: usize, held: usize) -> bool
+fn fits_in(ends: &[u32; 65], most: usize, i: usize, own: usize, held: usize) -> bool
     requires { ⌜ most < 65 ⌝ }
+    requires { ⌜ ((l : ℕ) → l < 65 → at (now ends) l ≤ mostRows) ⌝ }
     requires { ⌜ ((l : ℕ) → l ≤ most → i ≤ at (now ends) l) ⌝ }
     ensures { λ r. ⌜ r ≡ fitsIn (now (ends .entry)) most i own held ⌝ }
 {
@@ -23,7 +24,7 @@ fn fits_in(ends: &[usize; 65], most: usize, i: usize, own: usize, held: usize) -
     if 63 < own {
         return false;
     }
-    both(held < ends[own] - i, ends[own + 1] <= i)
+    both(held < ends[own] as usize - i, ends[own + 1] as usize <= i)
 }
 
 // Whether kind, name, level and size of a row fit each other. A name of 0 is asked for first: compilers expect what is
@@ -64,14 +65,15 @@ fn passed_in(
         (tableOf (now (key .entry)) (now (size .entry)) (now (level .entry))
         (now (kind .entry)) (now (name .entry)) count) ≡ count) ⌝ }
 {
-    let mut ends = [0usize; 65];
-    ends[0] = count;
+    let mut ends = [0u32; 65];
+    ends[0] = count as u32;
     let mut most = 0;
     let mut i = 0;
     while i < count {
-        if !keys::enter(key, i, heads, next, shift) {
+        if !keys::key_ok(key, i, heads, next, shift) {
             return i;
         }
+        let after = keys::link(key, i, heads, next, shift);
         let own = level[i];
         let held = size[i];
         if !fits_in(&ends, most, i, own, held) {
@@ -81,8 +83,8 @@ fn passed_in(
             return i;
         }
         most = own + 1;
-        ends[most] = i + held + 1;
-        i += 1;
+        ends[most] = (after + held) as u32;
+        i = after;
     }
     i
 }
@@ -101,6 +103,21 @@ pub fn passed(
         (tableOf (now (key .entry)) (now (size .entry)) (now (level .entry))
         (now (kind .entry)) (now (name .entry)) count) ≡ count) ⌝ }
 {
+    if count <= 16 {
+        let mut heads = [0u16; 64];
+        let mut next = [0u16; 16];
+        return passed_in(
+            key,
+            size,
+            level,
+            kind,
+            name,
+            count,
+            &mut heads,
+            &mut next,
+            26,
+        );
+    }
     if count <= 64 {
         let mut heads = [0u16; 256];
         let mut next = [0u16; 64];
@@ -116,9 +133,9 @@ pub fn passed(
             24,
         );
     }
-    if count <= 512 {
-        let mut heads = [0u16; 2048];
-        let mut next = [0u16; 512];
+    if count <= 256 {
+        let mut heads = [0u16; 1024];
+        let mut next = [0u16; 256];
         return passed_in(
             key,
             size,
@@ -128,7 +145,22 @@ pub fn passed(
             count,
             &mut heads,
             &mut next,
-            21,
+            22,
+        );
+    }
+    if count <= 1024 {
+        let mut heads = [0u16; 4096];
+        let mut next = [0u16; 1024];
+        return passed_in(
+            key,
+            size,
+            level,
+            kind,
+            name,
+            count,
+            &mut heads,
+            &mut next,
+            20,
         );
     }
     let mut heads = [0u16; 16384];

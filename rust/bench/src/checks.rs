@@ -2,7 +2,7 @@
 
 use crate::race::{Race, Times};
 use crate::report::{figure, Group};
-use crate::tables::{deep, flat};
+use crate::tables::{all_kinds, deep, flat};
 use lent::{key_of, Columns};
 
 /// At 4,096 flat rows the check takes at most so many times what plain Rust takes.
@@ -13,10 +13,16 @@ pub const GROWTH_BAR: f64 = 2.3;
 /// Makes a table of so many rows.
 pub type Shape = fn(usize) -> Columns;
 
-pub const SHAPES: [(&str, Shape); 2] = [("flat", flat), ("63 deep", deep)];
+pub const SHAPES: [(&str, Shape); 3] =
+    [("flat", flat), ("63 deep", deep), ("all kinds", all_kinds)];
+/// Tables of so few rows that what a call costs in itself shows.
+pub const FEW_ROWS: [usize; 2] = [1, 8];
 
 pub fn run(race: &Race) {
     let mut group = Group::new("check, microseconds a call");
+    for rows in FEW_ROWS {
+        group.line(&format!("{rows} rows, flat"), check_time(race, &flat(rows)));
+    }
     for (name, shape) in SHAPES {
         for rows in [64, 512, 4_096] {
             let times = check_time(race, &shape(rows));

@@ -1,9 +1,9 @@
 //! Finding a key: the row, its level and its parent's row.
 
-use crate::checks::{GROWTH_BAR, SHAPES};
+use crate::checks::{FEW_ROWS, GROWTH_BAR, SHAPES};
 use crate::race::{Race, Times};
 use crate::report::{figure, Group};
-use crate::tables::{deep, farms, flat, plant, wide};
+use crate::tables::{all_kinds, deep, farms, flat, plant, wide};
 use lent::Columns;
 
 /// A find takes at most so many times what plain Rust takes.
@@ -13,6 +13,9 @@ const ROWS: usize = 4_096;
 
 pub fn run(race: &Race) {
     let mut group = Group::new("find, microseconds a call");
+    for rows in FEW_ROWS {
+        group.line_with_bar(&format!("{rows} rows, flat, last row"), last(race, &flat(rows)), BAR);
+    }
     for rows in [64, 512] {
         for (name, shape) in SHAPES {
             let times = last(race, &shape(rows));
@@ -27,6 +30,7 @@ pub fn run(race: &Race) {
         ("63 deep", deep(ROWS)),
         ("63 deep and wide", wide(ROWS)),
         ("all roots", farms(ROWS, 1)),
+        ("all kinds", all_kinds(ROWS)),
     ];
     for (name, table) in tables {
         let [first, middle, last] = [0, ROWS / 2, ROWS - 1].map(|row| table.key[row]);

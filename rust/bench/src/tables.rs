@@ -41,6 +41,21 @@ pub fn farms(farms: usize, rows: usize) -> Columns {
     from_levels((0..farms * rows).map(|row| plant_level(row % rows)).collect())
 }
 
+/// A plant in a document, with rows of all kinds: of the rows without children a third, here and
+/// there, are texts, comments and processing instructions.
+pub fn all_kinds(rows: usize) -> Columns {
+    let mut table = plant(rows);
+    for row in 1..rows {
+        let scattered = scattered_key(row);
+        if table.size[row] == 0 && scattered % 3 == 0 {
+            table.kind[row] = 2 + scattered / 3 % 3;
+            table.name[row] = if table.kind[row] == 4 { 5 } else { 0 };
+        }
+    }
+    (table.kind[0], table.name[0]) = (0, 0);
+    table
+}
+
 fn plant_level(row: usize) -> usize {
     match row.checked_sub(1).map(|row| row % 64) {
         None => 0,

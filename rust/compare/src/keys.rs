@@ -3,7 +3,7 @@
 //! one bucket.
 
 use crate::random::Random;
-use lent::{bucket, buckets, key_of, scattered_key, width, BUCKETS};
+use lent::{bucket, buckets, key_of, scattered_key, width, BUCKETS, MOST_BUCKETS};
 
 /// With more rows a shared bucket takes the library long. The checks and the edits pose such
 /// tables on purpose; no other table becomes one by chance.
@@ -35,8 +35,8 @@ pub fn some_keys(random: &mut Random, rows: usize) -> Vec<usize> {
 /// of as many buckets as the table has, else of another number of them. Their upper halves are all
 /// 0, all the same or all different; the largest key is among some of them.
 pub fn sharing_keys(random: &mut Random, keys: usize, rows: usize) -> Vec<usize> {
-    let (own, [few, some, most]) = (buckets(rows), BUCKETS);
-    let of = random.pick(&[own, own, few, some, most, most]);
+    let (own, any) = (buckets(rows), random.pick(&BUCKETS));
+    let of = random.pick(&[own, own, any, MOST_BUCKETS]);
     let in_use = random.pick(&[1, 1, 2, 7]);
     let with_largest = random.chance(33);
     let (first, start) = match with_largest {
@@ -64,7 +64,7 @@ pub fn sharing_rows(random: &mut Random) -> usize {
     match random.below(32) {
         0 => 4_096,
         1 | 2 => random.within(513, 4_096),
-        3 | 4 => random.pick(&[64, 65, 512, 513]),
+        3 | 4 => random.pick(&[16, 17, 64, 65, 256, 257, 1_024, 1_025]),
         5..=10 => random.within(65, 512),
         _ => random.within(1, 64),
     }

@@ -1,7 +1,9 @@
 //! The buckets in which the library compares keys.
 
-/// The numbers of buckets that the library has: for few rows, for more, and for up to the most.
-pub const BUCKETS: [usize; 3] = [256, 2_048, 16_384];
+/// The numbers of buckets that the library has: the least of them that has four for each row.
+pub const BUCKETS: [usize; 5] = [64, 256, 1_024, 4_096, MOST_BUCKETS];
+/// The number of buckets for the most rows.
+pub const MOST_BUCKETS: usize = 16_384;
 
 /// A key's number is the sum of its halves' products with these, modulo 2^32; its bucket is the same
 /// part of all buckets as its number is of 2^32.
@@ -10,11 +12,7 @@ const HIGH_FACTOR: u32 = 0x1B87_3593;
 
 /// How many buckets it has for so many rows in use.
 pub fn buckets(rows: usize) -> usize {
-    match rows {
-        0..=64 => BUCKETS[0],
-        65..=512 => BUCKETS[1],
-        _ => BUCKETS[2],
-    }
+    BUCKETS.into_iter().find(|buckets| 4 * rows <= *buckets).unwrap_or(MOST_BUCKETS)
 }
 
 /// The bucket of a key, of so many. With fewer buckets each is made up of whole ones, so keys that
@@ -83,7 +81,7 @@ mod tests {
 
     #[test]
     fn ordinary_keys_spread_over_the_buckets() {
-        for rows in [64, 512, 4_096] {
+        for rows in [16, 64, 256, 512, 1_024, 4_096] {
             let powers = (0..=50).map(|bits| 1 << bits);
             for step in powers.chain([3, 5, 7, 10, 100, 1_000, 100_000, (1 << 32) + 1]) {
                 assert!(met((0..rows).map(|row| (row + 1) * step)) < 1.0, "{rows} rows, {step}");

@@ -8,6 +8,6 @@ mod columns;
 mod lend;
 mod scatter;
 
-pub use buckets::{bucket, buckets, key_of, width, BUCKETS};
+pub use buckets::{bucket, buckets, key_of, width, BUCKETS, MOST_BUCKETS};
 pub use columns::{sizes, Columns};
 pub use scatter::scattered_key;

@@ -4,6 +4,7 @@ use mathlib.Core.Path.{_≡_}
 use native.Mathlib.Nat.{le-antisymm}
 use lib.ListN.{length}
 use Rattle.keys.specs.Chain.{Chained}
+use Rattle.keys.proofs.KeyLaws.{room-for}
 use borrow.Author.Needs.{needs}
 use Rattle.clash.proofs.chain.Statement.{statement}
 use Rattle.clash.proofs.chain.Tie as tie
@@ -19,27 +20,15 @@ loop-holds : tie.Need-loop-holds Inv-loop μ-loop
 loop-holds c = search needs
 
 link-requires : tie.Need-link-requires Inv-loop μ-loop
-link-requires c κs = (
-  search needs,
-  (
-    record {
-      low = search needs;
-      heads-long = search needs;
-      next-long = search needs;
-      small = search needs;
-    },
-    search needs,
-  ),
-)
-
-add-i : tie.Need-add-i Inv-loop μ-loop
-add-i c = search needs
+link-requires c κs = (search needs, (search (needs, room-for), search needs))
 
 loop-less : tie.Need-loop-less Inv-loop μ-loop
 loop-less c = search needs
 
 loop-again : tie.Need-loop-again Inv-loop μ-loop
-loop-again c = (search needs, search needs, search needs, c .before .before .before .before .link .ensures)
+loop-again c =
+    let linked = c .before .before .before .before .link in
+    (search needs, search needs, search needs, rw (linked .ensures .0) (linked .ensures .1))
 
 same-length : tie.Need-same-length Inv-loop μ-loop
 same-length c = search needs
@@ -59,7 +48,6 @@ chain-spec =
     μ-loop
     loop-holds
     link-requires
-    add-i
     loop-less
     loop-again
     same-length

@@ -5,11 +5,11 @@ use mathlib.Core.Path.{_≡_, sym, ap, _∙_}
 use mathlib.Core.Bool.{not, false}
 use lib.ListN.{length}
 use borrow.Author.Count.{below-more, below-none}
-use borrow.Author.Tests.{not-true, not-false}
 use Rattle.tree.proofs.SearchLaws.{least-at, least-end}
 use Rattle.keys.specs.FirstKey.{firstKey}
 use Rattle.tree.specs.Sound.{keyOk}
 use Rattle.keys.specs.Chain.{Chained}
+use Rattle.keys.proofs.KeyLaws.{room-for}
 use borrow.Author.Needs.{needs}
 use Rattle.keys.proofs.first_in.Statement.{statement}
 use Rattle.keys.proofs.first_in.Tie as tie
@@ -25,19 +25,8 @@ abbrev μ-loop : tie.MeasureT-loop
 loop-holds : tie.Need-loop-holds Inv-loop μ-loop
 loop-holds c = (search needs, search needs, search needs, search needs, below-none _)
 
-enter-requires : tie.Need-enter-requires Inv-loop μ-loop
-enter-requires c κs = (
-  search needs,
-  (
-    record {
-      low = search needs;
-      heads-long = search needs;
-      next-long = search needs;
-      small = search needs;
-    },
-    search needs,
-  ),
-)
+key-ok-requires : tie.Need-key-ok-requires Inv-loop μ-loop
+key-ok-requires c κs = (search needs, (search (needs, room-for), search needs))
 
 same-length : tie.Need-same-length Inv-loop μ-loop
 same-length c = search needs
@@ -48,26 +37,27 @@ same-length-2 c = search needs
 returns : tie.Need-returns Inv-loop μ-loop
 unfolding firstKey
 returns c =
-    let entered = c .before .before .before .before .before in
-    let turn = entered .before .before .before in
+    let turn = c .before .before .before .before in
     sym (least-at _ _ _ (turn .loop-test .taken) (turn .before .loop .inv .4)
-    (ap not (sym (entered .enter .ensures .0)) ∙ c .if1 .taken))
+    (ap not (sym (c .before .key-ok .ensures)) ∙ c .if1 .taken))
 
-add-i : tie.Need-add-i Inv-loop μ-loop
-add-i c = search needs
+link-requires : tie.Need-link-requires Inv-loop μ-loop
+link-requires c κs = (search needs, (search (needs, room-for), search needs))
 
 loop-less : tie.Need-loop-less Inv-loop μ-loop
 loop-less c = search needs
 
 loop-again : tie.Need-loop-again Inv-loop μ-loop
 loop-again c =
-    let entered = c .before .before .before .before .before in
-    let at = entered .before .before .before .before .loop in (
+    let linked = c .before .before .before .before in
+    let tested = linked .before .before .before in
+    let at = tested .before .before .before .before .before .loop in (
       search needs,
       search needs,
       search needs,
-      entered .enter .ensures .1 (not-false (entered .enter .result) (c .if1 .left)),
-      below-more _ _ (at .inv .4) (ap not (sym (entered .enter .ensures .0)) ∙ c .if1 .left),
+      rw (linked .link .ensures .0) (linked .link .ensures .1),
+      rw (linked .link .ensures .0)
+          (below-more _ _ (at .inv .4) (ap not (sym (tested .before .key-ok .ensures)) ∙ tested .if1 .left)),
     )
 
 same-length-3 : tie.Need-same-length-3 Inv-loop μ-loop
@@ -87,11 +77,11 @@ first-in-spec =
     Inv-loop
     μ-loop
     loop-holds
-    enter-requires
+    key-ok-requires
     same-length
     same-length-2
     returns
-    add-i
+    link-requires
     loop-less
     loop-again
     same-length-3

@@ -1,4 +1,5 @@
 -- `keys::link` meets its contract: one more row is chained. Assumes nothing.
+use mathlib.Core.Path.{refl}
 use native.Mathlib.Omega.{arith}
 use Rattle.keys.proofs.KeyLaws.{chained-more}
 use borrow.Author.Needs.{needs}
@@ -14,6 +15,9 @@ shared-slice-read-bucket c = search needs
 bucket-requires : tie.Need-bucket-requires
 bucket-requires c κs = search needs
 
+add-chained : tie.Need-add-chained
+add-chained c = search needs
+
 mul-next : tie.Need-mul-next
 mul-next c = search needs
 
@@ -25,9 +29,6 @@ mul-next-2 c = search needs
 
 slice-write-next : tie.Need-slice-write-next
 slice-write-next c = search needs
-
-add-heads : tie.Need-add-heads
-add-heads c = search needs
 
 cast-heads : tie.Need-cast-heads
 cast-heads c = search needs
@@ -47,10 +48,12 @@ same-length-2 c = search needs
 returns : tie.Need-returns
 returns c =
     let at-bucket = c .before in
-    let start = at-bucket .before .before .before .before .before in
-    rw (at-bucket .bucket .ensures .0)
-    (chained-more _ _ _ _ (start .args .i) (start .pre .1 .0 .low) (start .pre .1 .0 .heads-long) (omega arith)
-    (start .pre .1 .1))
+    let start = at-bucket .before .before .before .before .before in (
+      refl,
+      rw (at-bucket .bucket .ensures .0)
+          (chained-more _ _ _ _ (start .args .i) (start .pre .1 .0 .low) (start .pre .1 .0 .heads-long) (omega arith)
+          (start .pre .1 .1)),
+    )
 
 pub link-spec : {M : Type 1} → statement M
 link-spec =
@@ -59,11 +62,11 @@ link-spec =
     mul-bucket
     shared-slice-read-bucket
     bucket-requires
+    add-chained
     mul-next
     slice-read-next
     mul-next-2
     slice-write-next
-    add-heads
     cast-heads
     mul-heads
     slice-write-heads

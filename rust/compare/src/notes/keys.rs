@@ -2,7 +2,7 @@
 
 use super::{note, Note, CHECK, EDIT, MOST_ROWS, TABLE};
 use crate::case::{Answer, Call, Case, Insert};
-use lent::{bucket, buckets, BUCKETS};
+use lent::{bucket, buckets, MOST_BUCKETS};
 use std::collections::HashSet;
 use std::ops::RangeInclusive;
 
@@ -11,15 +11,21 @@ const OTHERS: usize = 8;
 /// For a piece of so few rows the library looks through the table's rows, and into no bucket.
 const SHORT_PIECE: usize = 4;
 
-pub static KEYS: [Note; 16] = [
+pub static KEYS: [Note; 18] = [
     note(TABLE, "all keys in one bucket, accepted", 1_000, |case, answer| {
         accepts_one_bucket(case, answer, 1..=MOST_ROWS)
     }),
-    note(CHECK, "all keys in one of 2,048 buckets, accepted", 200, |case, answer| {
-        accepts_one_bucket(case, answer, 65..=512)
+    note(CHECK, "all keys in one of 64 buckets, accepted", 100, |case, answer| {
+        accepts_one_bucket(case, answer, 1..=16)
+    }),
+    note(CHECK, "all keys in one of 1,024 buckets, accepted", 100, |case, answer| {
+        accepts_one_bucket(case, answer, 65..=256)
+    }),
+    note(CHECK, "all keys in one of 4,096 buckets, accepted", 50, |case, answer| {
+        accepts_one_bucket(case, answer, 257..=1_024)
     }),
     note(CHECK, "all keys in one of 16,384 buckets, accepted", 20, |case, answer| {
-        accepts_one_bucket(case, answer, 513..=MOST_ROWS)
+        accepts_one_bucket(case, answer, 1_025..=MOST_ROWS)
     }),
     note(CHECK, "4,096 keys in one bucket, accepted", 10, |case, answer| {
         accepts_one_bucket(case, answer, MOST_ROWS..=MOST_ROWS)
@@ -31,11 +37,11 @@ pub static KEYS: [Note; 16] = [
             && (2..=OTHERS).contains(&filled().collect::<HashSet<_>>().len())
     }),
     note(CHECK, "all keys in one bucket, however many buckets there are", 100, |case, answer| {
-        answer.refusal == 0 && share_a_bucket(keys(case), BUCKETS[2])
+        answer.refusal == 0 && share_a_bucket(keys(case), MOST_BUCKETS)
     }),
     note(CHECK, "the same with the largest key", 20, |case, answer| {
         let largest = || keys(case).contains(&usize::MAX);
-        answer.refusal == 0 && largest() && share_a_bucket(keys(case), BUCKETS[2])
+        answer.refusal == 0 && largest() && share_a_bucket(keys(case), MOST_BUCKETS)
     }),
     note(CHECK, "a key found before others of its bucket", 200, |case, answer| {
         let found = |key: usize| comes_before_others(case, key, case.count);

@@ -1,4 +1,6 @@
 -- `rows::one_pass::fits_in` meets its contract, test by test. Assumes nothing.
+use Prim.Native.Nat.{_+_}
+use native.Mathlib.Omega.{arith}
 use borrow.Author.Tests.{le-leb, lt-leb}
 use Rattle.rows.specs.OnePass.{fitsIn}
 use borrow.Author.Needs.{needs}
@@ -19,8 +21,13 @@ mul-both c = search needs
 element-copy-out-both : tie.Need-element-copy-out-both
 element-copy-out-both c = search needs
 
+cast-both : tie.Need-cast-both
+cast-both c =
+    let start = c .before .before .before in
+    omega (arith, start .pre .1 .0 (start .args .own) (omega arith))
+
 sub-both : tie.Need-sub-both
-sub-both c = c .before .before .before .pre .1 _ (c .before .before .if1 .left)
+sub-both c = c .before .before .before .pre .1 .1 _ (c .before .before .if1 .left)
 
 add-both : tie.Need-add-both
 add-both c = search needs
@@ -30,6 +37,11 @@ mul-both-2 c = search needs
 
 element-copy-out-both-2 : tie.Need-element-copy-out-both-2
 element-copy-out-both-2 c = search needs
+
+cast-both-2 : tie.Need-cast-both-2
+cast-both-2 c =
+    let start = c .before .before .before .before in
+    omega (arith, start .pre .1 .0 (start .args .own + 1) (omega arith))
 
 both-requires : tie.Need-both-requires
 both-requires c κs = search needs
@@ -48,9 +60,11 @@ fits-in-spec =
     returns-2
     mul-both
     element-copy-out-both
+    cast-both
     sub-both
     add-both
     mul-both-2
     element-copy-out-both-2
+    cast-both-2
     both-requires
     returns-3)

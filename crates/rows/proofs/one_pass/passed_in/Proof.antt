@@ -2,14 +2,15 @@
 -- and stands in ends; and they are chained by their keys, which are good. Assumes nothing.
 use Prim.Native.Nat.{ℕ, _+_, _≤_, _<_, _-_}
 use mathlib.Core.Path.{_≡_, sym, _∙_}
-use mathlib.Core.Bool.{true}
+use mathlib.Core.Bool.{true, _&&_}
 use native.Mathlib.Omega.{arith}
-use lib.ListN.{length, replicate, length-replicate}
+use lib.ListN.{length}
 use borrow.Author.Count.{below-more, below-none}
 use borrow.Author.Tests.{not-false}
 use Rattle.tree.specs.Table.{tableOf, at}
-use Rattle.tree.specs.Sound.{keyOk}
+use Rattle.tree.specs.Sound.{kindOk, nameOk, keyOk}
 use Rattle.keys.specs.Chain.{Chained}
+use Rattle.keys.proofs.KeyLaws.{room-for}
 use Rattle.rows.specs.OnePass.{fitsIn}
 use Rattle.rows.proofs.OnePassLaws.{Followed, followed-start, row-ends, followed-more, followed-all}
 use borrow.Author.Needs.{needs}
@@ -24,6 +25,9 @@ Inv-loop key size level kind name count heads₀ next₀ shift ends₀ most₀ i
 abbrev μ-loop : tie.MeasureT-loop
 μ-loop key size level kind name count heads₀ next₀ shift ends₀ most₀ i₀ heads next ends most i = count - i
 
+cast-ends : tie.Need-cast-ends Inv-loop μ-loop
+cast-ends c = search needs
+
 array-write-ends : tie.Need-array-write-ends Inv-loop μ-loop
 array-write-ends c = search needs
 
@@ -33,24 +37,12 @@ loop-holds c = (
   search needs,
   search needs,
   search needs,
-  followed-start _ (c .before .before .before .before .before .before .before .pre .0)
-      (replicate {A = ℕ} 65 0) (length-replicate {A = ℕ} 65 0),
+  followed-start _ (c .before .before .before .before .before .before .before .pre .0),
   below-none _,
 )
 
-enter-requires : tie.Need-enter-requires Inv-loop μ-loop
-enter-requires c κs = (
-  search needs,
-  (
-    record {
-      low = search needs;
-      heads-long = search needs;
-      next-long = search needs;
-      small = search needs;
-    },
-    search needs,
-  ),
-)
+key-ok-requires : tie.Need-key-ok-requires Inv-loop μ-loop
+key-ok-requires c κs = (search needs, (search (needs, room-for), search needs))
 
 same-length : tie.Need-same-length Inv-loop μ-loop
 same-length c = search needs
@@ -60,6 +52,9 @@ same-length-2 c = search needs
 
 returns : tie.Need-returns Inv-loop μ-loop
 returns c e = absurd (omega arith)
+
+link-requires : tie.Need-link-requires Inv-loop μ-loop
+link-requires c κs = (search needs, (search (needs, room-for), search needs))
 
 mul-own : tie.Need-mul-own Inv-loop μ-loop
 mul-own c = search needs
@@ -75,8 +70,9 @@ shared-slice-read-held c = search needs
 
 fits-in-requires : tie.Need-fits-in-requires Inv-loop μ-loop
 fits-in-requires c κs =
-    let entered = c .before .before .before .before .before .before .before .before in
-    let followed = entered .before .before .before .before .loop .inv .4 in (followed .low, followed .ahead)
+    let linked = c .before .before .before .before .before .before .before in
+    let followed = linked .before .before .before .before .before .before .before .before .loop .inv .4 in
+    (followed .low, (followed .short, followed .ahead))
 
 same-length-3 : tie.Need-same-length-3 Inv-loop μ-loop
 same-length-3 c = search needs
@@ -116,11 +112,14 @@ module _ (c : tie.Else3 Inv-loop μ-loop) where
   abbrev fitted : tie.Else2 Inv-loop μ-loop
   fitted = c .before .before .before .before
 
-  abbrev entered : tie.After-enter Inv-loop μ-loop
-  entered = fitted .before .before .before .before .before .before .before .before .before .before
+  abbrev linked : tie.After-link Inv-loop μ-loop
+  linked = fitted .before .before .before .before .before .before .before .before .before
+
+  abbrev good : tie.Else1 Inv-loop μ-loop
+  good = linked .before .before .before
 
   abbrev turn : tie.In-loop Inv-loop μ-loop
-  turn = entered .before .before .before
+  turn = good .before .before .before .before
 
   abbrev start : tie.Start Inv-loop μ-loop
   start = turn .before .before .before .before .before .before .before .before .before
@@ -130,6 +129,16 @@ module _ (c : tie.Else3 Inv-loop μ-loop) where
       ≡ true
   fits = sym (fitted .before .fits-in .ensures) ∙ not-false (fitted .before .fits-in .result) (fitted .if2 .left)
 
+  kinds : (kindOk (at (start .args .kind .now) (turn .before .loop .i))
+      (at (start .args .size .now) (turn .before .loop .i)) (at (start .args .level .now) (turn .before .loop .i))
+      && nameOk (at (start .args .kind .now) (turn .before .loop .i))
+      (at (start .args .name .now) (turn .before .loop .i))) ≡ true
+  kinds = sym (c .before .kind-fits .ensures) ∙ not-false (c .before .kind-fits .result) (c .if3 .left)
+
+  key-good : keyOk (start .args .key .now) (turn .before .loop .i) ≡ true
+  key-good =
+      sym (good .before .key-ok .ensures) ∙ not-false (good .before .key-ok .result) (good .if1 .left)
+
   bounds : (at (start .args .level .now) (turn .before .loop .i) ≤ 63)
       × (turn .before .loop .i + at (start .args .size .now) (turn .before .loop .i) < start .args .count)
   bounds = row-ends _ (start .pre .0) _ _ _ (turn .loop-test .taken) (turn .before .loop .inv .4) fits
@@ -138,10 +147,10 @@ add-most : tie.Need-add-most Inv-loop μ-loop
 add-most c = omega (arith, bounds c)
 
 add-ends : tie.Need-add-ends Inv-loop μ-loop
-add-ends c = omega (arith, bounds c, start c .pre .0 .few)
+add-ends c = omega (arith, bounds c, linked c .link .ensures .0, start c .pre .0 .few)
 
-add-ends-2 : tie.Need-add-ends-2 Inv-loop μ-loop
-add-ends-2 c = omega (arith, bounds c, start c .pre .0 .few)
+cast-ends-2 : tie.Need-cast-ends-2 Inv-loop μ-loop
+cast-ends-2 c = omega (arith, bounds c, linked c .link .ensures .0, start c .pre .0 .few)
 
 mul-ends : tie.Need-mul-ends Inv-loop μ-loop
 mul-ends c = omega (arith, bounds c)
@@ -149,24 +158,20 @@ mul-ends c = omega (arith, bounds c)
 array-write-ends-2 : tie.Need-array-write-ends-2 Inv-loop μ-loop
 array-write-ends-2 c = omega (arith, bounds c)
 
-add-i : tie.Need-add-i Inv-loop μ-loop
-add-i c = search needs
-
 loop-less : tie.Need-loop-less Inv-loop μ-loop
 loop-less c = search needs
 
 loop-again : tie.Need-loop-again Inv-loop μ-loop
-loop-again c =
-    let lengths = fitted c .before .before .before .before .before in
-    let good : entered c .enter .result ≡ true = not-false (entered c .enter .result) (lengths .if1 .left) in (
-      search needs,
-      lengths .before .before .before .before .heads .given ∙ turn c .before .loop .inv .1,
-      lengths .before .before .next .given ∙ turn c .before .loop .inv .2,
-      entered c .enter .ensures .1 good,
-      followed-more _ (start c .pre .0) _ _ _ (turn c .loop-test .taken) (turn c .before .loop .inv .4) (fits c)
-          (sym (c .before .kind-fits .ensures) ∙ not-false (c .before .kind-fits .result) (c .if3 .left)),
-      below-more _ _ (turn c .before .loop .inv .5) (sym (entered c .enter .ensures .0) ∙ good),
-    )
+loop-again c = (
+  search needs,
+  search needs,
+  search needs,
+  rw (linked c .link .ensures .0) (linked c .link .ensures .1),
+  rw (linked c .link .ensures .0)
+      (followed-more _ (start c .pre .0) _ _ _ (turn c .loop-test .taken) (turn c .before .loop .inv .4) (fits c)
+      (kinds c)),
+  rw (linked c .link .ensures .0) (below-more _ _ (turn c .before .loop .inv .5) (key-good c)),
+)
 
 same-length-7 : tie.Need-same-length-7 Inv-loop μ-loop
 same-length-7 c = search needs
@@ -185,12 +190,14 @@ passed-in-spec =
     (tie.spec
     Inv-loop
     μ-loop
+    cast-ends
     array-write-ends
     loop-holds
-    enter-requires
+    key-ok-requires
     same-length
     same-length-2
     returns
+    link-requires
     mul-own
     shared-slice-read-own
     mul-held
@@ -209,10 +216,9 @@ passed-in-spec =
     returns-3
     add-most
     add-ends
-    add-ends-2
+    cast-ends-2
     mul-ends
     array-write-ends-2
-    add-i
     loop-less
     loop-again
     same-length-7
