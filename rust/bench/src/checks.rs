@@ -1,7 +1,7 @@
 //! Checks.
 
 use crate::race::{Race, Times};
-use crate::report::{figure, Group};
+use crate::report::{counted, figure, Group};
 use crate::tables::{all_kinds, deep, flat};
 use lent::{key_of, Columns};
 
@@ -15,18 +15,13 @@ pub type Shape = fn(usize) -> Columns;
 
 pub const SHAPES: [(&str, Shape); 3] =
     [("flat", flat), ("63 deep", deep), ("all kinds", all_kinds)];
-/// Tables of so few rows that what a call costs in itself shows.
-pub const FEW_ROWS: [usize; 2] = [1, 8];
 
 pub fn run(race: &Race) {
     let mut group = Group::new("check, microseconds a call");
-    for rows in FEW_ROWS {
-        group.line(&format!("{rows} rows, flat"), check_time(race, &flat(rows)));
-    }
     for (name, shape) in SHAPES {
-        for rows in [64, 512, 4_096] {
+        for rows in [1, 8, 24, 64, 512, 4_096] {
             let times = check_time(race, &shape(rows));
-            let line = format!("{rows} rows, {name}");
+            let line = format!("{}, {name}", counted(rows));
             match (rows, name) {
                 (4_096, "flat") => group.line_with_bar(&line, times, CHECK_BAR),
                 _ => group.line(&line, times),
@@ -55,6 +50,6 @@ fn one_bucket(race: &Race) {
     for rows in [64, 512, 4_096] {
         let key = (1..=rows).map(|number| key_of(number as u32, 0)).collect();
         let times = check_time(race, &Columns { key, ..flat(rows) });
-        group.line(&format!("{rows} rows, flat"), times);
+        group.line(&format!("{}, flat", counted(rows)), times);
     }
 }

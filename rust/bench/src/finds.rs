@@ -1,8 +1,8 @@
 //! Finding a key: the row, its level and its parent's row.
 
-use crate::checks::{FEW_ROWS, GROWTH_BAR, SHAPES};
+use crate::checks::{GROWTH_BAR, SHAPES};
 use crate::race::{Race, Times};
-use crate::report::{figure, Group};
+use crate::report::{counted, figure, Group};
 use crate::tables::{all_kinds, deep, farms, flat, plant, wide};
 use lent::Columns;
 
@@ -13,14 +13,13 @@ const ROWS: usize = 4_096;
 
 pub fn run(race: &Race) {
     let mut group = Group::new("find, microseconds a call");
-    for rows in FEW_ROWS {
-        group.line_with_bar(&format!("{rows} rows, flat, last row"), last(race, &flat(rows)), BAR);
-    }
-    for rows in [64, 512] {
+    for rows in [1, 8, 24, 64, 512] {
         for (name, shape) in SHAPES {
             let times = last(race, &shape(rows));
-            group.line_with_bar(&format!("{rows} rows, {name}, last row"), times, BAR);
+            group.line_with_bar(&format!("{}, {name}, last row", counted(rows)), times, BAR);
         }
+        let times = time(race, &all_kinds(rows), 0);
+        group.line_with_bar(&format!("{}, all kinds, missing", counted(rows)), times, BAR);
     }
     // The parent of the last row stands 4,095 rows before it, some rows, one row, 65 rows; a root
     // has none.

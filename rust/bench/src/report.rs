@@ -48,6 +48,15 @@ impl Group {
     }
 }
 
+/// So many rows, up to 4,096, in words.
+pub fn counted(rows: usize) -> String {
+    match (rows, rows / 1_000) {
+        (1, _) => String::from("1 row"),
+        (_, 0) => format!("{rows} rows"),
+        (_, thousands) => format!("{thousands},{:03} rows", rows % 1_000),
+    }
+}
+
 /// Prints a number that stands for itself, with its bar.
 pub fn figure(name: &str, value: f64, bar: f64) {
     println!("  {name:<62}{value:>8.2}  {}", mark(value, bar));
