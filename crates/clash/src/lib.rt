@@ -76,6 +76,11 @@ fn clash_by_chains(key: &[usize], n: usize, piece: &[usize], m: usize) -> usize
         let mut next = [0u16; 16];
         return clash_in(key, n, piece, m, &mut heads, &mut next, 26);
     }
+    if n <= 32 {
+        let mut heads = [0u16; 128];
+        let mut next = [0u16; 32];
+        return clash_in(key, n, piece, m, &mut heads, &mut next, 25);
+    }
     if n <= 64 {
         let mut heads = [0u16; 256];
         let mut next = [0u16; 64];

@@ -1,26 +1,15 @@
-// Insertion, deletion and rename by key: RULES 01, "Finding and editing by key". Each call finds the row of its key
-// in the table, which checks it, and hands what was found, the row and its parent, to the edit there: RULES 02, E3. A
-// refusal leaves all columns as they were.
-ghost use mathlib.Core.Path.{_≡_};
+// Insertion, deletion and rename by key: RULES 01, "Finding and editing by key". Each call checks the table, looks up
+// its key, and hands what was found, the row and its parent, to the edit there: RULES 02, E3. A refusal leaves all
+// columns as they were.
 ghost use Rattle.tree.specs.Table.{tableOf};
 ghost use Rattle.tree.specs.Outcome.{insertOutcome, deleteOutcome, renameOutcome};
 ghost use Rattle.edit_at.specs.EditLeaves.{EditLeaves};
-ghost use Rattle.edit.specs.SearchRefusal.{refusalOf};
 use edit_at::deletion;
 use edit_at::renaming;
 use insert_at::insert_at;
+use tree::Checked;
 use tree::Edited;
 use tree::Found;
-
-// The refusal of a search, as an edit's: 1, 2 or 9, with its place. Asked only where no row was found.
-fn refused(found: Found) -> Edited
-    ensures { λ r. ⌜ r ≡ refusalOf found ⌝ }
-{
-    match found {
-        Found::Refused(number, place) => Edited::Refused(number, place),
-        Found::At(_) => Edited::Refused(9, 0),
-    }
-}
 
 // A piece becomes the last child of the row of a key, or refusal 1, 2, 9, 10, 11, 12, 13 or 14.
 pub fn insert(
@@ -45,9 +34,13 @@ pub fn insert(
         (now («p_name» .entry)) «p_count»)) r
         (now (key .exit)) (now (size .exit)) (now (level .exit)) (now (kind .exit)) (now (name .exit)) ⌝ }
 {
-    let found = table::find(key, size, level, kind, name, count, parent_key);
+    let checked = table::check(key, size, level, kind, name, count);
+    if let Checked::Refused(number, place) = checked {
+        return Edited::Refused(number, place);
+    }
+    let found = table::locate(key, size, level, kind, name, count, parent_key);
     let Found::At(located) = found else {
-        return refused(found);
+        return Edited::Refused(9, 0);
     };
     insert_at(
         key,
@@ -81,9 +74,13 @@ pub fn delete(
         (now (name .entry)) count) «key_wanted») r
         (now (key .exit)) (now (size .exit)) (now (level .exit)) (now (kind .exit)) (now (name .exit)) ⌝ }
 {
-    let found = table::find(key, size, level, kind, name, count, key_wanted);
+    let checked = table::check(key, size, level, kind, name, count);
+    if let Checked::Refused(number, place) = checked {
+        return Edited::Refused(number, place);
+    }
+    let found = table::locate(key, size, level, kind, name, count, key_wanted);
     let Found::At(located) = found else {
-        return refused(found);
+        return Edited::Refused(9, 0);
     };
     deletion::delete_at(key, size, level, kind, name, count, located)
 }
@@ -104,9 +101,13 @@ pub fn rename(
         (now (name .entry)) count) «key_wanted» «new_name») r
         (now (key .exit)) (now (size .exit)) (now (level .exit)) (now (kind .exit)) (now (name .exit)) ⌝ }
 {
-    let found = table::find(key, size, level, kind, name, count, key_wanted);
+    let checked = table::check(key, size, level, kind, name, count);
+    if let Checked::Refused(number, place) = checked {
+        return Edited::Refused(number, place);
+    }
+    let found = table::locate(key, size, level, kind, name, count, key_wanted);
     let Found::At(located) = found else {
-        return refused(found);
+        return Edited::Refused(9, 0);
     };
     renaming::rename_at(key, size, level, kind, name, count, located, new_name)
 }

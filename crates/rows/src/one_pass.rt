@@ -118,6 +118,21 @@ pub fn passed(
             26,
         );
     }
+    if count <= 32 {
+        let mut heads = [0u16; 128];
+        let mut next = [0u16; 32];
+        return passed_in(
+            key,
+            size,
+            level,
+            kind,
+            name,
+            count,
+            &mut heads,
+            &mut next,
+            25,
+        );
+    }
     if count <= 64 {
         let mut heads = [0u16; 256];
         let mut next = [0u16; 64];

@@ -64,7 +64,7 @@ pub fn sharing_rows(random: &mut Random) -> usize {
     match random.below(32) {
         0 => 4_096,
         1 | 2 => random.within(513, 4_096),
-        3 | 4 => random.pick(&[16, 17, 64, 65, 256, 257, 1_024, 1_025]),
+        3 | 4 => random.pick(&[16, 17, 32, 33, 64, 65, 256, 257, 1_024, 1_025]),
         5..=10 => random.within(65, 512),
         _ => random.within(1, 64),
     }

@@ -1,7 +1,7 @@
 //! The buckets in which the library compares keys.
 
 /// The numbers of buckets that the library has: the least of them that has four for each row.
-pub const BUCKETS: [usize; 5] = [64, 256, 1_024, 4_096, MOST_BUCKETS];
+pub const BUCKETS: [usize; 6] = [64, 128, 256, 1_024, 4_096, MOST_BUCKETS];
 /// The number of buckets for the most rows.
 pub const MOST_BUCKETS: usize = 16_384;
 
@@ -81,7 +81,7 @@ mod tests {
 
     #[test]
     fn ordinary_keys_spread_over_the_buckets() {
-        for rows in [16, 64, 256, 512, 1_024, 4_096] {
+        for rows in [16, 32, 64, 256, 512, 1_024, 4_096] {
             let powers = (0..=50).map(|bits| 1 << bits);
             for step in powers.chain([3, 5, 7, 10, 100, 1_000, 100_000, (1 << 32) + 1]) {
                 assert!(met((0..rows).map(|row| (row + 1) * step)) < 1.0, "{rows} rows, {step}");

@@ -1,46 +1,136 @@
--- `edit::insert` meets its contract: the refusal of the search, or the edit at the row found. Assumes nothing.
-use Rattle.tree.specs.Outcome.{insertOutcome}
-use Rattle.edit.proofs.KeyOutcomeLaws.{search-refused, known, insert-found}
+-- `edit::insert` meets its contract: the refusal of the check or of the search, or the edit at the row found. Assumes
+-- nothing.
+use mathlib.Core.Path.{refl, sym, _∙_}
+use Rattle.tree.specs.Outcome.{checkOutcome, insertOutcome}
+use Rattle.tree.proofs.SoundLaws.{table-passes}
+use Rattle.edit.proofs.KeyOutcomeLaws.{check-refused, key-missing, known, insert-found}
 use borrow.Author.Needs.{needs}
 use Rattle.edit.proofs.insert.Statement.{statement}
 use Rattle.edit.proofs.insert.Tie as tie
 
+check-requires : tie.Need-check-requires
+check-requires c κs = search needs
+
+enum-known-checked : tie.Need-enum-known-checked
+enum-known-checked c = search needs
+
+same-length : tie.Need-same-length
+same-length c = search needs
+
+same-length-2 : tie.Need-same-length-2
+same-length-2 c = search needs
+
+same-length-3 : tie.Need-same-length-3
+same-length-3 c = search needs
+
+same-length-4 : tie.Need-same-length-4
+same-length-4 c = search needs
+
+same-length-5 : tie.Need-same-length-5
+same-length-5 c = search needs
+
 returns : tie.Need-returns
 unfolding insertOutcome
 returns c =
-    let found = c .before .before .before in
-    search-refused _ _ (found .find .ensures) _ _ _ (c .before .enum-told .given .1) (c .refused .ensures)
+    let checked = c .before in
+    check-refused _ _ _ _ _ (checked .before .before .check .ensures) (checked .checked .given .1) refl
+
+enum-told : tie.Need-enum-told
+enum-told c = search needs
+
+locate-requires : tie.Need-locate-requires
+unfolding checkOutcome
+locate-requires c κs =
+    let told = c .before .before .before .before .before in
+    table-passes _ .0 (sym (told .before .before .check .ensures) ∙ told .enum-told .given .1)
+
+enum-known-found : tie.Need-enum-known-found
+enum-known-found c = search needs
+
+enum-told-2 : tie.Need-enum-told-2
+enum-told-2 c = search needs
+
+same-length-6 : tie.Need-same-length-6
+same-length-6 c = search needs
+
+same-length-7 : tie.Need-same-length-7
+same-length-7 c = search needs
+
+same-length-8 : tie.Need-same-length-8
+same-length-8 c = search needs
+
+same-length-9 : tie.Need-same-length-9
+same-length-9 c = search needs
+
+same-length-10 : tie.Need-same-length-10
+same-length-10 c = search needs
+
+returns-2 : tie.Need-returns-2
+unfolding insertOutcome
+returns-2 c =
+    let looked = c .before .before in
+    let told = looked .before .before .before .before .before .before in
+    key-missing _ _ (told .before .before .check .ensures) (told .enum-told .given .1) (looked .locate .ensures) _ _ _
+    (c .enum-told2 .given .1) refl
 
 insert-at-requires : tie.Need-insert-at-requires
 insert-at-requires c κs =
     let row = c .before .before .before .before .before .before in
-    known _ _ (row .before .before .find .ensures) (row .found .given .1)
+    let looked = row .before .before in
+    let told = looked .before .before .before .before .before .before in
+    known _ _ (told .before .before .check .ensures) (told .enum-told .given .1) (looked .locate .ensures)
+    (row .found .given .1)
 
-returns-2 : tie.Need-returns-2
-returns-2 c =
+same-length-11 : tie.Need-same-length-11
+same-length-11 c = search needs
+
+same-length-12 : tie.Need-same-length-12
+same-length-12 c = search needs
+
+same-length-13 : tie.Need-same-length-13
+same-length-13 c = search needs
+
+same-length-14 : tie.Need-same-length-14
+same-length-14 c = search needs
+
+same-length-15 : tie.Need-same-length-15
+same-length-15 c = search needs
+
+returns-3 : tie.Need-returns-3
+returns-3 c =
     let edit = c .before .before .before .before .before .before .before .before .before .before in
     let row = edit .before .before .before .before .before .before .before in
-    rw (insert-found _ _ (row .before .before .find .ensures) (row .found .given .1) _) (edit .insert-at .ensures)
+    let looked = row .before .before in
+    let told = looked .before .before .before .before .before .before in
+    rw (insert-found _ _ (told .before .before .check .ensures) (told .enum-told .given .1) (looked .locate .ensures)
+    (row .found .given .1) _) (edit .insert-at .ensures)
 
--- what the calls ask besides, and that each column keeps its length, is found by search
 pub insert-spec : {M : Type 1} → statement M
 insert-spec =
     tie.close
     (tie.spec
-    (λ c κs. search needs)
-    (λ c. search needs)
-    (λ c. search needs)
-    (λ c κs. search needs)
-    (λ c. search needs)
-    (λ c. search needs)
-    (λ c. search needs)
-    (λ c. search needs)
-    (λ c. search needs)
+    check-requires
+    enum-known-checked
+    same-length
+    same-length-2
+    same-length-3
+    same-length-4
+    same-length-5
     returns
+    enum-told
+    locate-requires
+    enum-known-found
+    enum-told-2
+    same-length-6
+    same-length-7
+    same-length-8
+    same-length-9
+    same-length-10
+    returns-2
     insert-at-requires
-    (λ c. search needs)
-    (λ c. search needs)
-    (λ c. search needs)
-    (λ c. search needs)
-    (λ c. search needs)
-    returns-2)
+    same-length-11
+    same-length-12
+    same-length-13
+    same-length-14
+    same-length-15
+    returns-3)

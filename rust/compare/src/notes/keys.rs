@@ -11,12 +11,15 @@ const OTHERS: usize = 8;
 /// For a piece of so few rows the library looks through the table's rows, and into no bucket.
 const SHORT_PIECE: usize = 4;
 
-pub static KEYS: [Note; 18] = [
+pub static KEYS: [Note; 19] = [
     note(TABLE, "all keys in one bucket, accepted", 1_000, |case, answer| {
         accepts_one_bucket(case, answer, 1..=MOST_ROWS)
     }),
     note(CHECK, "all keys in one of 64 buckets, accepted", 100, |case, answer| {
         accepts_one_bucket(case, answer, 1..=16)
+    }),
+    note(CHECK, "all keys in one of 128 buckets, accepted", 100, |case, answer| {
+        accepts_one_bucket(case, answer, 17..=32)
     }),
     note(CHECK, "all keys in one of 1,024 buckets, accepted", 100, |case, answer| {
         accepts_one_bucket(case, answer, 65..=256)
