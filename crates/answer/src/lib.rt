@@ -1,4 +1,6 @@
 // The library's version, and its answers as structs for C: refusal 0 is acceptance, and what is not used is 0.
+#![tactic(auto)]
+
 ghost use Rattle.std.specs.Prelude.{◌≡◌, ◌≤◌};
 ghost use Rattle.answer.specs.Answer.{accepted, refused, check_answer, step_answer, edit_answer, carry_answer};
 ghost use Rattle.answer.specs.Answer.{batch_answer};

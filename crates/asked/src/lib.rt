@@ -1,4 +1,6 @@
 // The codes of a step: RULES 01, refusals 6 and 7.
+#![tactic(auto)]
+
 ghost use Rattle.std.specs.Prelude.{◌≡◌};
 ghost use Rattle.tree.specs.Axis.{axis_ok};
 ghost use Rattle.tree.specs.Test.{test_ok};

@@ -1,4 +1,6 @@
 // One role: the rows that its contexts reach on an axis, each arm one axis of the definition.
+#![tactic(auto)]
+
 ghost use Rattle.std.specs.Prelude.{◌≡◌, true};
 ghost use Rattle.scan.specs.OneRole.{one_role, RoleIn, Wrote, Parents, Roots};
 ghost use Rattle.scan.specs.Want.{fits};

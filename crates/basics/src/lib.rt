@@ -1,5 +1,7 @@
 // Tests joined, of two or of a part of a column, and the smaller and the greater of two numbers. They stand for
 // branches, which would lose what a test showed.
+#![tactic(auto)]
+
 ghost use Rattle.std.specs.Prelude.{◌≡◌, ◌↔◌, true, ◌&&◌, ◌||◌, ℕ, ◌<◌, ◌≤◌, min, max, length, get_or};
 
 // Whether both hold.

@@ -1,5 +1,7 @@
 // A weekend's changes in one call: RULES 02, E4. The table is checked once; each item is then done as its own call
 // would do it, on the table that the items before it left, which is sound.
+#![tactic(auto)]
+
 ghost use Rattle.std.specs.Prelude.{◌≡◌, ◌≤◌, length};
 ghost use Rattle.tree.specs.Table.{table_of};
 ghost use Rattle.tree.specs.Sound.{row_of};
@@ -94,7 +96,7 @@ fn do_items(
         count,
         end: Checked::Passed,
     };
-    while progress::goes_on_lem(so_far, item_code.len()) {
+    while progress::goes_on(so_far, item_code.len()) {
         let i = so_far.done;
         let item = Item {
             code: item_code[i],

@@ -1,5 +1,7 @@
 // A cheap upper bound of the number of lines of a step: where it fits, the lines need not be counted before they are
 // written. A role reaches each row once, and a pair reaches what lies on the axis of its row.
+#![tactic(auto)]
+
 ghost use Rattle.std.specs.Prelude.{◌≡◌, true, cond, ◌<◌, ◌≤◌, eqb, length};
 ghost use Rattle.tree.specs.Table.{table_of};
 ghost use Rattle.tree.specs.Pairs.{pairs_of};

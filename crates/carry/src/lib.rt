@@ -1,5 +1,7 @@
 // Pairs of role and row carried over an edit, so that each names the same key as before: RULES 02, E1. Nothing is
 // written before it is known that all of it fits.
+#![tactic(auto)]
+
 ghost use Rattle.tree.specs.Carry.{carry_outcome};
 ghost use Rattle.carry.specs.CarryLeaves.{CarryLeaves};
 

@@ -1,4 +1,6 @@
 // The least row of a piece whose key a table has, by the table's rows chained in buckets, as `keys` chains them.
+#![tactic(auto)]
+
 ghost use Rattle.std.specs.Prelude.{◌≡◌, ◌≤◌, length};
 ghost use Rattle.keys.specs.Chain.{ChainRoom, Chained};
 ghost use Rattle.clash.specs.FirstClash.{first_clash};

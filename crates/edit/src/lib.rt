@@ -1,6 +1,8 @@
 // Insertion, deletion and rename by key: RULES 01, "Finding and editing by key". Each call checks the table, looks up
 // its key, and hands what was found, the row and its parent, to the edit there: RULES 02, E3. A refusal leaves all
 // columns as they were.
+#![tactic(auto)]
+
 ghost use Rattle.tree.specs.Table.{table_of};
 ghost use Rattle.tree.specs.Outcome.{insert_outcome, delete_outcome, rename_outcome};
 ghost use Rattle.edit_at.specs.EditLeaves.{EditLeaves};

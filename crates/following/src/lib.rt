@@ -1,4 +1,6 @@
 // The axis following: tree by tree its rows are one range.
+#![tactic(auto)]
+
 ghost use Rattle.std.specs.Prelude.{◌≡◌, length};
 ghost use Rattle.scan.specs.Want.{fits};
 ghost use Rattle.scan.specs.OneRole.{one_role, RoleIn, Roots, Wrote};

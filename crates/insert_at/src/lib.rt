@@ -1,4 +1,6 @@
 // An insertion at a row that was found: RULES 01, "Finding and editing by key".
+#![tactic(auto)]
+
 ghost use Rattle.tree.specs.Table.{table_of};
 ghost use Rattle.tree.specs.Outcome.{row_there};
 ghost use Rattle.table.specs.RowFound.{RowFound};

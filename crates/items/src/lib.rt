@@ -1,5 +1,7 @@
 // A list of changes: RULES 02, E4. Whether its columns are one, refusal 18, which is asked of the whole list before any
 // item is done; and how far it was done.
+#![tactic(auto)]
+
 ghost use Rattle.std.specs.Prelude.{◌≡◌, ◌≤◌, length};
 ghost use Rattle.tree.specs.Search.{least};
 ghost use Rattle.tree.specs.Batch.{wrong_code, list_check};

@@ -17,7 +17,7 @@ pub fn nothing_done(count: usize, number: usize, place: usize) -> Batched
 }
 
 // Whether there is an item to try: none was refused, and one is left.
-pub fn goes_on_lem(so_far: Batched, items: usize) -> bool
+pub fn goes_on(so_far: Batched, items: usize) -> bool
     ensures { result ≡ goes_on so_far items }
 {
     let end = so_far.end;

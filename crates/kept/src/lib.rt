@@ -1,4 +1,6 @@
 // The kept count of the contexts of one role, on every axis. The contexts do not fall: equal ones stand side by side.
+#![tactic(auto)]
+
 ghost use Rattle.std.specs.Prelude.{◌≡◌, true, ◌<◌, length};
 ghost use Rattle.scan.specs.OneRole.{Roots};
 ghost use Rattle.links.specs.Links.{side_axis};

@@ -1,5 +1,7 @@
 // The kept count of the contexts of one role on the axes that do not stop at the ends of a tree. The contexts do not
 // fall: equal ones stand side by side.
+#![tactic(auto)]
+
 ghost use Rattle.std.specs.Prelude.{◌≡◌, cond, ◌<◌, leb, length};
 ghost use Rattle.kept_rows.specs.KeptOf.{kept_of, KeptIn};
 

@@ -1,6 +1,8 @@
 // The row of a key, and the least row whose key is bad, by rows chained in buckets. A link is one more than a row, or 0
 // for none: `heads` has for each bucket a link to its last row, `next` for each row a link to the row before it in its
 // bucket.
+#![tactic(auto)]
+
 ghost use Rattle.std.specs.Prelude.{◌≡◌, false, ℕ, ◌+◌, ◌<◌, ◌≤◌, length, eqb};
 ghost use Rattle.tree.specs.Table.{at};
 ghost use Rattle.tree.specs.Sound.{row_of, key_ok};

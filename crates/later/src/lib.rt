@@ -2,6 +2,8 @@
 // group reaches ends where that subtree ends, and the next group begins behind it. Where the contexts of a group have
 // one parent, they reach what the first of them reaches, and those rows are written as they are met. What other
 // groups reach goes through the set of `one_role`.
+#![tactic(auto)]
+
 ghost use Rattle.std.specs.Prelude.{◌≡◌, true, ◌<◌, ◌≤◌, length};
 ghost use Rattle.tree.specs.Rules.{Shape};
 ghost use Rattle.scan.specs.Want.{fits};

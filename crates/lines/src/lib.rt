@@ -1,4 +1,6 @@
 // All roles, one after the other: the pairs of one role lie together.
+#![tactic(auto)]
+
 ghost use Rattle.std.specs.Prelude.{◌≡◌, length};
 ghost use Rattle.tree.specs.Table.{table_of};
 ghost use Rattle.tree.specs.Pairs.{pairs_of};

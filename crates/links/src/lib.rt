@@ -1,5 +1,7 @@
 // The column of links that an axis follows, found once for a call: the parents of all rows, or the roots of their
 // trees. A parent is one more than its row, 0 for none.
+#![tactic(auto)]
+
 ghost use Rattle.std.specs.Prelude.{◌≡◌, cond, ◌-◌, ◌<◌, eqb, length};
 ghost use Rattle.tree.specs.Table.{at};
 ghost use Rattle.tree.specs.Rules.{Shape};

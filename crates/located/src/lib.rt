@@ -1,5 +1,7 @@
 // Where a row stands: RULES 02, E3. Its parent is searched for once, when its key is found; whoever edits the row reads
 // it from what was found.
+#![tactic(auto)]
+
 ghost use Rattle.std.specs.Prelude.{◌≡◌, ℕ, ◌+◌, ◌<◌, ◌≤◌, length};
 ghost use Rattle.tree.specs.Table.{at};
 ghost use Rattle.tree.specs.Tree.{parent};

@@ -1,4 +1,6 @@
 // The way up from the one context of a role: its parent, or all its ancestors, written without a set.
+#![tactic(auto)]
+
 ghost use Rattle.std.specs.Prelude.{◌≡◌};
 ghost use Rattle.scan.specs.Want.{fits};
 ghost use Rattle.scan.specs.OneRole.{one_role, Wrote};

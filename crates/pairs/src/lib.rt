@@ -1,5 +1,7 @@
 // The pairs of role and row that a caller hands in: RULES 01, "The step", refusals 3, 4 and 5. Two passes
 // without a branch show that most lists are right; only a list that fails is searched for its least wrong place.
+#![tactic(auto)]
+
 ghost use Rattle.std.specs.Prelude.{◌≡◌, false, not, ◌<◌, ◌≤◌, ltb, length};
 ghost use Rattle.tree.specs.Search.{least};
 ghost use Rattle.tree.specs.Table.{at};

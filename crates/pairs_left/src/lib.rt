@@ -1,6 +1,8 @@
 // All pairs over an edit: RULES 02, E1. They are counted first, so that the pass that writes them needs no branch: a
 // pair that goes is written over by the next one that stays, and nothing is written behind the last. While four are
 // left, a turn writes four, which is faster than a turn for each. Where none goes, each keeps its place.
+#![tactic(auto)]
+
 ghost use Rattle.std.specs.Prelude.{◌≡◌, length};
 ghost use Rattle.pairs_left.specs.Left.{left_of, Ready, Carries, PutRoom, Puts, Writing};
 

@@ -1,4 +1,6 @@
 // Whether a piece may come under a row: RULES 01, "Finding and editing by key"; refusals 10 to 14.
+#![tactic(auto)]
+
 ghost use Rattle.std.specs.Prelude.{◌≡◌, ℕ, ◌+◌, ◌<◌, ◌≤◌, ◌||◌, ltb, length};
 ghost use Rattle.tree.specs.Search.{some_below};
 ghost use Rattle.tree.specs.Table.{table_of, at, shortest};

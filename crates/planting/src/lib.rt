@@ -1,4 +1,6 @@
 // The rows of a piece that fits, put in under a row that was found: RULES 01, "Finding and editing by key".
+#![tactic(auto)]
+
 ghost use Rattle.tree.specs.Table.{table_of};
 ghost use Rattle.tree.specs.Outcome.{row_there};
 ghost use Rattle.edit_at.specs.EditLeaves.{EditLeaves};

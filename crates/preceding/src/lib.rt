@@ -1,4 +1,6 @@
 // The axis preceding: in a tree its rows are ranges between the ancestors of the last context there.
+#![tactic(auto)]
+
 ghost use Rattle.std.specs.Prelude.{◌<◌, ◌≤◌};
 ghost use Rattle.scan.specs.Want.{fits};
 ghost use Rattle.scan.specs.OneRole.{one_role, RoleIn, Roots, Wrote};

@@ -1,5 +1,7 @@
 // The example program: which setpoints of RULES 01's small farm do roles 5 and 7 reach? It runs M1 and prints each
 // result with the key of its row, then the number of results and the kept count.
+#![tactic(auto)]
+
 use io::print_decimal;
 use libc::STDOUT_FILENO;
 use tree::{Ask, Stepped};

@@ -1,4 +1,6 @@
 // The library's functions under C names: include/reach.h. Each hands its slices on and puts the answer into a struct.
+#![tactic(auto)]
+
 ghost use Rattle.std.specs.Prelude.{◌≡◌};
 ghost use Rattle.tree.specs.Table.{table_of};
 ghost use Rattle.tree.specs.Outcome.{check_outcome, find_outcome, step_outcome};

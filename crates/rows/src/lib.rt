@@ -1,4 +1,6 @@
 // The least row of a table that is not sound: RULES 01, "The table".
+#![tactic(auto)]
+
 ghost use Rattle.std.specs.Prelude.{◌≡◌, ◌<◌};
 ghost use Rattle.tree.specs.Table.{table_of, shortest, count_ok};
 ghost use Rattle.tree.specs.Sound.{beside_key_ok, first_bad};

@@ -1,4 +1,6 @@
 // The rules of one row: RULES 01, "The table". A function for each rule but the key's, which `keys` has.
+#![tactic(auto)]
+
 ghost use Rattle.std.specs.Prelude.{◌≡◌, ◌<◌, ◌≤◌, length};
 ghost use Rattle.tree.specs.Sound.{level_ok, run_of, size_ok, kind_ok, name_ok};
 

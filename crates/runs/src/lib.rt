@@ -1,4 +1,6 @@
 // The run of pairs of one role, and its number beside each of its lines.
+#![tactic(auto)]
+
 ghost use Rattle.std.specs.Prelude.{◌<◌, ◌≤◌, length, replicate};
 ghost use Rattle.scan.specs.OneRole.{Wrote};
 ghost use Rattle.runs.specs.Runs.{RunEnd};

@@ -1,5 +1,7 @@
 // Scans of a range of rows: those that fit are appended to a result column, ascending. `written` says how many results
 // the column has already. And `past_tree`, for the axes that go tree by tree.
+#![tactic(auto)]
+
 ghost use Rattle.std.specs.Prelude.{true, ◌+◌, ◌≤◌, eqb, length};
 ghost use Rattle.tree.specs.Table.{at};
 ghost use Rattle.scan.specs.Want.{fits};

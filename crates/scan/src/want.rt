@@ -5,7 +5,7 @@ ghost use Rattle.scan.specs.Want.{wanted_kind, want_of, fits};
 use tree::Ask;
 
 // A kind, 5 for any, and a name, 0 for any.
-#[derive(Drop)]
+#[derive(Clone, Copy)]
 pub struct Want {
     pub kind: usize,
     pub name: usize,

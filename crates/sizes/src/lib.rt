@@ -1,5 +1,7 @@
 // The sizes above an edited row: RULES 01, "Finding and editing by key"; RULES 02, E3. They change on the way up from
 // the parent that was found with the row; each next ancestor is the nearest earlier row one level up.
+#![tactic(auto)]
+
 ghost use Rattle.std.specs.Prelude.{◌≡◌, true, ℕ, ◌+◌, ◌-◌, ◌<◌, ◌≤◌, length, set};
 ghost use Rattle.tree.specs.Table.{at};
 ghost use Rattle.tree.specs.Tree.{ancestor};

@@ -1,4 +1,6 @@
 // The axes self, descendant and descendant-or-self: their rows come out as ranges, ascending.
+#![tactic(auto)]
+
 ghost use Rattle.std.specs.Prelude.{◌-◌, ◌≤◌};
 ghost use Rattle.scan.specs.Want.{fits};
 ghost use Rattle.scan.specs.OneRole.{one_role, RoleIn, Wrote};

@@ -1,4 +1,6 @@
 // One location step for all roles: RULES 01, "The step". Nothing is written before it is known that all of it fits.
+#![tactic(auto)]
+
 ghost use Rattle.tree.specs.Table.{table_of};
 ghost use Rattle.tree.specs.Outcome.{step_outcome};
 ghost use Rattle.step.specs.StepLeaves.{StepLeaves};

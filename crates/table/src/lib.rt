@@ -1,5 +1,7 @@
 // What every call checks first, and finding by its key where a row stands: RULES 01, "The table" and "Finding and
 // editing by key"; RULES 02, E3. No column is changed.
+#![tactic(auto)]
+
 ghost use Rattle.std.specs.Prelude.{◌≡◌};
 ghost use Rattle.tree.specs.Table.{table_of};
 ghost use Rattle.tree.specs.Rules.{Sound};

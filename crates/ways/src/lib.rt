@@ -3,6 +3,8 @@
 // others are new, and come after all that is written. The way up meets them from the last to the first, so each
 // stretch is turned round once it is written. A link is one more than a row, or 0 for none, as in the column of
 // parents.
+#![tactic(auto)]
+
 ghost use Rattle.std.specs.Prelude.{◌≡◌, reverse, ◌+◌, ◌<◌, ◌≤◌};
 ghost use Rattle.scan.specs.Want.{fits};
 ghost use Rattle.scan.specs.OneRole.{one_role, RoleIn, Parents, Wrote};

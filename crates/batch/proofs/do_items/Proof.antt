@@ -44,7 +44,7 @@ module _ (c : tie.Then1 invariant-loop decreases-loop) where
   start = at_loop.before.before.before.before.before.before.before.before.before.before.before
 
   goes : goes_on at_loop.loop.so_far (length start.args.item-code.now) ≡ true
-  goes = sym c.before.goes_on_lem.ensures ∙ c.if1.true
+  goes = sym c.before.goes_on.ensures ∙ c.if1.true
 
   left : (at_loop.loop.so_far.done < length start.args.item-code.now)
       × (length start.args.item-code.now ≤ 256)
@@ -101,7 +101,7 @@ returns c =
     let looped = c.before.before in
     let list = looped.before.before.before.before.before.before.before.before.before.before.before.requires.1.1.1 in
     so_far_end _ _ _ list.keys list.names _ looped.loop.so_far _ refl looped.loop.invariant.0
-    (sym c.before.goes_on_lem.ensures ∙ c.if1.false)
+    (sym c.before.goes_on.ensures ∙ c.if1.false)
 
 -- what the calls ask besides, and that each column keeps its length, is found by search
 pub do-items-spec : {M : Type 1} → statement M

@@ -1,7 +1,7 @@
--- `items::progress::goes_on_lem` meets its contract, by what ended the list. Assumes nothing.
+-- `items::progress::goes_on` meets its contract, by what ended the list. Assumes nothing.
 use borrow.Author.Rules.{rules}
-use Rattle.items.proofs.progress.goes_on_lem.Statement.{statement}
-use Rattle.items.proofs.progress.goes_on_lem.Tie as tie
+use Rattle.items.proofs.progress.goes_on.Statement.{statement}
+use Rattle.items.proofs.progress.goes_on.Tie as tie
 
 enum_told : tie.Need-enum-told
 enum_told c = search rules

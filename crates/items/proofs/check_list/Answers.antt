@@ -1,0 +1,35 @@
+-- `items::check_list` meets its contract: lengths first, then codes. Assumes nothing.
+use borrow.Author.Tests.{lt-ltb, le-ltb}
+use Rattle.tree.specs.Search.{some_below}
+use Rattle.tree.specs.Refusal.{given}
+use Rattle.tree.specs.Batch.{list_check}
+use borrow.Author.Rules.{rules}
+use Rattle.items.proofs.check_list.Goals as goal
+
+pub returns-then-either : goal.returns-then-either
+unfolding list_check given some_below
+returns-then-either c = rw (← c.either.ensures, ← c.either-2.ensures, c.if-either.true)
+
+pub returns-then-first_wrong-items : goal.returns-then-first_wrong-items
+unfolding list_check given some_below
+returns-then-first_wrong-items c =
+    let even = c in
+    rw (
+      ← even.either.ensures,
+      ← even.either-2.ensures,
+      even.if-either.false,
+      ← c.first_wrong.ensures,
+      lt-ltb _ _ c.if-first_wrong-items.true,
+    )
+
+pub returns : goal.returns
+unfolding list_check given some_below
+returns c =
+    let even = c in
+    rw (
+      ← even.either.ensures,
+      ← even.either-2.ensures,
+      even.if-either.false,
+      ← c.first_wrong.ensures,
+      le-ltb _ _ c.if-first_wrong-items.false,
+    )

@@ -1,0 +1,11 @@
+-- `keys::key_ok` meets its contract: the key is 0, or a walk along its chain says whether it is new. Assumes nothing.
+use mathlib.Core.Path.{sym}
+use Rattle.keys.proofs.KeyLaws.{key_zero, key_new}
+use borrow.Author.Rules.{rules}
+use Rattle.keys.proofs.key_ok.Goals as goal
+
+pub returns-then-x-eq0 : goal.returns-then-x-eq0
+returns-then-x-eq0 c = sym (key_zero _ _ c.if-x-eq0.true)
+
+pub returns : goal.returns
+returns c = rw c.row_in.ensures (key_new _ _ c.if-x-eq0.false)

@@ -1,0 +1,18 @@
+-- `keys::row_in` meets its contract. The invariant: of the rows that the walk has passed, the row kept is the least that
+-- has the key x; one before it is on the rest of the chain. Assumes nothing.
+use Prim.Native.Nat.{ℕ, ◌≤◌, ◌<◌, ◌-◌}
+use mathlib.Core.Path.{◌≡◌, sym, subst}
+use mathlib.Core.Logic.{⊎_elim}
+use native.Mathlib.Nat.{le_refl, lt_irrefl}
+use native.Mathlib.Omega.{arith}
+use Rattle.tree.specs.Table.{at}
+use Rattle.keys.proofs.KeyLaws.{Walk, walk_start, walk_less, walk_step, walk_hit, walk_end}
+use borrow.Author.Rules.{rules}
+use Rattle.keys.proofs.row_in.Given as goal
+
+abbrev pub invariant-loop-r : goal.invariant-loop-r
+invariant-loop-r l =
+    (l.row ≤ l.n) × (l.row < l.n → at l.key l.row ≡ l.x) × Walk l.shift l.key l.x l.row l.r
+
+abbrev pub decreases-loop-r : goal.decreases-loop-r
+decreases-loop-r l = l.r

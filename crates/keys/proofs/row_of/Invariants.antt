@@ -1,0 +1,18 @@
+-- `keys::row_of` meets its contract. The invariant: no row below k has the key. Assumes nothing.
+use Prim.Native.Nat.{ℕ, ◌≤◌, ◌<◌, ◌-◌}
+use mathlib.Core.Path.{◌≡◌, sym}
+use mathlib.Core.Bool.{false}
+use lib.Dec.{eqb}
+use lib.ListN.{get_or}
+use borrow.Author.Count.{below_more}
+use borrow.Author.Tests.{ne_eqb, eq-eqb}
+use Rattle.tree.proofs.SearchLaws.{least_at, least_end}
+use Rattle.tree.specs.Sound.{row_of}
+use borrow.Author.Rules.{rules}
+use Rattle.keys.proofs.row_of.Given as goal
+
+abbrev pub invariant-loop-k : goal.invariant-loop-k
+invariant-loop-k l = (l.k ≤ l.n) × ((j : ℕ) → j < l.k → eqb (get_or l.key j 0) l.x ≡ false)
+
+abbrev pub decreases-loop-k : goal.decreases-loop-k
+decreases-loop-k l = l.n - l.k
