@@ -6,12 +6,12 @@ use Rattle.asked.proofs.axis_ok.Goals as goal
 
 pub returns-in-1-to-11 : goal.returns-in-1-to-11
 unfolding axis_ok
-returns-in-1-to-11 c = simp (le-leb 1 _ c.if-axis-lt1.false, le-leb c.args.axis 11 (omega arith))
+returns-in-1-to-11 c = simp (le-leb 1 c.args.axis (omega arith), le-leb c.args.axis 11 (omega arith))
 
 pub returns-in_default : goal.returns-in_default
 unfolding axis_ok
-returns-in_default c = simp (lt-leb 1 _ c.if-axis-lt1.true)
+returns-in_default c = simp (lt-leb 1 c.args.axis (omega arith))
 
 pub returns-in_default-2 : goal.returns-in_default-2
 unfolding axis_ok
-returns-in_default-2 c = simp (le-leb 1 _ c.if-axis-lt1.false, lt-leb c.args.axis 11 (omega arith))
+returns-in_default-2 c = simp (le-leb 1 c.args.axis (omega arith), lt-leb c.args.axis 11 (omega arith))

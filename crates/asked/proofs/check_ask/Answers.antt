@@ -2,26 +2,28 @@
 use borrow.Author.Tests.{not-true, not-false}
 use Rattle.tree.specs.Refusal.{given, next, ask_check}
 use borrow.Author.Rules.{rules}
+use mathlib.Core.Path.{ap}
+use mathlib.Core.Bool.{not}
 use Rattle.asked.proofs.check_ask.Goals as goal
 
 pub returns-then-not-axis_ok : goal.returns-then-not-axis_ok
 unfolding ask_check given next
-returns-then-not-axis_ok c = simp (← c.axis_ok.ensures, not-true c.axis_ok.result c.if-not-axis_ok.true)
+returns-then-not-axis_ok c = simp (← c.axis_ok.ensures, c.if-not-axis_ok.true)
 
 pub returns-then-not-test_ok : goal.returns-then-not-test_ok
 unfolding ask_check given next
 returns-then-not-test_ok c = simp (
   ← c.axis_ok.ensures,
-  not-false c.axis_ok.result c.if-not-axis_ok.false,
+  c.if-not-axis_ok.false,
   ← c.test_ok.ensures,
-  not-true c.test_ok.result c.if-not-test_ok.true,
+  c.if-not-test_ok.true,
 )
 
 pub returns : goal.returns
 unfolding ask_check given next
 returns c = simp (
   ← c.axis_ok.ensures,
-  not-false c.axis_ok.result c.if-not-axis_ok.false,
+  c.if-not-axis_ok.false,
   ← c.test_ok.ensures,
-  not-false c.test_ok.result c.if-not-test_ok.false,
+  c.if-not-test_ok.false,
 )

@@ -12,7 +12,7 @@ pub returns-then-not-either : goal.returns-then-not-either
 returns-then-not-either c =
     let turn = c in
     sym (least_at _ _ _ turn.loop-i-test.true turn.loop-i.invariant.1
-    (ap not (sym c.either.ensures) ∙ c.if-not-either.true))
+    (ap not (sym c.either.ensures) ∙ (ap not c.if-not-either.true)))
 
 pub returns : goal.returns
 returns c = least_end _ _ _ c.loop-i.invariant.0 c.loop-i-test.false c.loop-i.invariant.1

@@ -18,7 +18,7 @@ unfolding first_key
 returns-then-not-key_ok c =
     let turn = c in record {
       value = sym (least_at _ _ _ turn.loop-i-test.true turn.loop-i.invariant.4
-          (ap not (sym c.key_ok.ensures) ∙ c.if-not-key_ok.true));
+          (ap not (sym c.key_ok.ensures) ∙ (ap not c.if-not-key_ok.true)));
       chained_2 = turn.loop-i.invariant.3;
     }
 

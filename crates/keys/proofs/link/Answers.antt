@@ -8,9 +8,9 @@ use Rattle.keys.proofs.link.Goals as goal
 pub returns : goal.returns
 returns c =
     let at-bucket = c in
-    let start = at-bucket.before.before.before.before.before in record {
+    let start = at-bucket in record {
       value = refl;
-      chained_2 = rw at-bucket.bucket.ensures.0
-          (chained_more _ _ _ _ start.args.i start.requires.1.0.low start.requires.1.0.heads_long (omega arith)
-          start.requires.1.1);
+      chained_2 = rw at-bucket.bucket-b.ensures.0
+          (chained_more _ _ _ _ start.args.i start.requires.chain_room.low start.requires.chain_room.heads_long (omega arith)
+          start.requires.chained);
     }

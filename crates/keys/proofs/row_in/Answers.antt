@@ -9,6 +9,7 @@ use Rattle.tree.specs.Table.{at}
 use Rattle.keys.proofs.KeyLaws.{Walk, walk_start, walk_less, walk_step, walk_hit, walk_end}
 use borrow.Author.Rules.{rules}
 use Rattle.keys.proofs.row_in.Goals as goal
+use Rattle.keys.proofs.row_in.Goals.{then-key-j, else-key-j}
 
 pub loop-r-init : goal.loop-r-init
 loop-r-init c =
@@ -19,48 +20,25 @@ loop-r-init c =
           c.bucket-b.ensures.0,
     )
 
--- RAW
-module _ (c : tie.After-shared-slice-known6 invariant-loop decreases-loop) where
-  abbrev turn : tie.In-loop invariant-loop decreases-loop
-  turn = c.before.before.before
-
-  abbrev start : tie.Start invariant-loop decreases-loop
-  start = turn.before.before.before.before.before.before.before
-
-  less : at start.args.next.now (turn.before.loop.r - 1) < turn.before.loop.r
-  less =
-      walk_less _ _ _ _ _ _ _ _ start.pre.1.1 turn.before.loop.inv.0 turn.before.loop.inv.2
-      turn.loop-test.taken
-
-  passed : (at start.args.key.now (turn.before.loop.r - 1) ≡ start.args.x → ⊥)
-      → Walk start.args.shift start.args.key.now start.args.x turn.before.loop.row
-      (at start.args.next.now (turn.before.loop.r - 1))
-  passed =
-      walk_step _ _ _ _ _ _ _ _ start.pre.1.1 turn.before.loop.inv.0 turn.before.loop.inv.2
-      turn.loop-test.taken
-
-  hit : Walk start.args.shift start.args.key.now start.args.x (turn.before.loop.r - 1)
-      (at start.args.next.now (turn.before.loop.r - 1))
-  hit =
-      walk_hit _ _ _ _ _ _ _ _ start.pre.1.1 turn.before.loop.inv.0 turn.before.loop.inv.2
-      turn.loop-test.taken
-
 pub loop-r-smaller : goal.loop-r-smaller
-loop-r-smaller c = less c
+loop-r-smaller c =
+    walk_less _ _ _ _ _ _ _ _ c.requires.chained c.loop-r.invariant.0 c.loop-r.invariant.2 c.loop-r-test.true
 
 pub loop-r-preserved : goal.loop-r-preserved
-loop-r-preserved c = ⊎_elim
-    (λ came. rw came.1 (
-      omega (arith, (turn c).before.loop.invariant.0, (turn c).before.loop.invariant.2.within),
-      λ _. came.0.taken,
-      hit c,
-    ))
-    (λ came. rw came.1 (
-      (turn c).before.loop.invariant.0,
-      (turn c).before.loop.invariant.1,
-      passed c came.0.left,
-    ))
-    c.if-key-j.branch
+loop-r-preserved c =
+    let kept = c.loop-r.invariant in
+    elim c.if-key-j.branch [
+      then-key-j w ↦ rw w.row-is (
+        omega (arith, kept.0, kept.2.within),
+        λ _. w.if-key-j.true,
+        walk_hit _ _ _ _ _ _ _ _ c.requires.chained kept.0 kept.2 c.loop-r-test.true,
+      )
+      | else-key-j w ↦ rw w.row-is (
+        kept.0,
+        kept.1,
+        walk_step _ _ _ _ _ _ _ _ c.requires.chained kept.0 kept.2 c.loop-r-test.true w.if-key-j.false,
+      )
+    ]
 
 pub returns : goal.returns
 returns c =

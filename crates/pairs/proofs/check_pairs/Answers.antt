@@ -5,6 +5,8 @@ use Rattle.tree.specs.Refusal.{given, given_at, next, pair_check}
 use Rattle.tree.proofs.AcceptLaws.{neither}
 use Rattle.pairs.proofs.PairLaws.{pair_check_is, pairs_pass}
 use borrow.Author.Rules.{rules}
+use mathlib.Core.Path.{ap}
+use mathlib.Core.Bool.{not}
 use Rattle.pairs.proofs.check_pairs.Goals as goal
 
 pub returns-then-role-row : goal.returns-then-role-row
@@ -17,7 +19,7 @@ returns-then-role-gt4096 c = simp (eq-eqb _ _ c.if-role-row.false, lt-ltb _ _ c.
 
 pub returns-then-not-either : goal.returns-then-not-either
 returns-then-not-either c =
-    let none = neither _ _ (sym c.either.ensures ∙ not-true c.either.result c.if-not-either.true) in
+    let none = neither _ _ (sym c.either.ensures ∙ not-true c.either.result (ap not c.if-not-either.true)) in
     sym (pairs_pass _ _ _ c.if-role-row.false
     c.if-role-gt4096.false
     (c.falls_somewhere.ensures none.0)
