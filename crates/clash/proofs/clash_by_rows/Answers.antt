@@ -1,0 +1,20 @@
+-- `clash::clash_by_rows` meets its contract: no key of the rows below i is taken. Assumes nothing.
+use Prim.Native.Nat.{ℕ, ◌≤◌, ◌<◌, ◌-◌}
+use mathlib.Core.Path.{◌≡◌, sym}
+use mathlib.Core.Bool.{false}
+use lib.Dec.{ltb}
+use borrow.Author.Count.{below_more, below_none}
+use borrow.Author.Tests.{lt-ltb, le-ltb}
+use Rattle.tree.specs.Table.{at}
+use Rattle.tree.specs.Sound.{row_of}
+use Rattle.tree.proofs.SearchLaws.{least_at, least_end}
+use borrow.Author.Rules.{rules}
+use Rattle.clash.proofs.clash_by_rows.Goals as goal
+
+pub returns-then-row_of-n : goal.returns-then-row_of-n
+returns-then-row_of-n c =
+    sym (least_at _ _ _ c.loop-i-test.true
+    c.loop-i.invariant.1 (rw (← c.row_of.ensures) (lt-ltb _ _ c.if-row_of-n.true)))
+
+pub returns : goal.returns
+returns c = least_end _ _ _ c.loop-i.invariant.0 c.loop-i-test.false c.loop-i.invariant.1

@@ -1,0 +1,14 @@
+-- `links::above` meets its contract. Assumes nothing.
+use native.Mathlib.Omega.{arith}
+use borrow.Author.Tests.{eq-eqb, ne_eqb}
+use borrow.Author.Rules.{rules}
+use Rattle.links.specs.Links.{above_of}
+use Rattle.links.proofs.above.Goals as goal
+
+pub returns-then-l-eq0 : goal.returns-then-l-eq0
+unfolding above_of
+returns-then-l-eq0 c = simp (eq-eqb _ _ c.if-l-eq0.true)
+
+pub returns : goal.returns
+unfolding above_of
+returns c = simp (ne_eqb _ _ c.if-l-eq0.false)

@@ -1,0 +1,71 @@
+-- `marks::row_set::drain_word` meets its contract. The loop's invariant: for some bit of the word, the rows before it
+-- that fit are written, and the rest has the word's bits from there on. The measure is the rest. Assumes nothing.
+use Prim.Native.Nat.{◌<◌}
+use mathlib.Core.Path.{◌≡◌}
+use mathlib.Core.Logic.{⊎_elim}
+use native.Mathlib.Omega.{arith}
+use borrow.Author.Rules.{rules}
+use lib.Count.{count_trailing_zeros}
+use lib.ListN.{length}
+use Rattle.scan.specs.Want.{fits}
+use Rattle.marks.proofs.BitLaws.{lowest_less}
+use Rattle.marks.proofs.BitsLeftLaws.{left_high, left_set}
+use Rattle.marks.proofs.WordLaws.{WordWalk, word_start, word_done, word_length, word_index, word_no, word_yes}
+use Rattle.marks.proofs.row_set.drain_word.Goals as goal
+use Rattle.marks.proofs.row_set.drain_word.Goals.{At-loop-rest, In-loop-rest, Then-fits_row, else-fits_row, then-fits_row}
+
+-- the lowest bit is one of the 64
+high : (c : In-loop-rest) → count_trailing_zeros 64 c.loop-rest.rest < 64
+high c = left_high c.loop-rest.invariant.left c.loop-rest-test.true
+
+-- out keeps its length
+whole : (s : At-loop-rest)
+    → length s.loop-rest.out ≡ length s.args.out.now
+whole s = word_length _ _ _ _ s.loop-rest.invariant s.requires.room
+
+-- at a row that fits there is room for it
+written : (c : Then-fits_row)
+    → c.loop-rest.at < length c.loop-rest.out
+written c =
+    let t = c in
+    let s = t in
+    let room = s.requires.room in
+    word_index _ _ _ _ s.loop-rest.invariant room t.loop-rest-test.true t.fits_row.ensures c.if-fits_row.true
+
+pub loop-rest-init : goal.loop-rest-init
+loop-rest-init c = word_start _ _ _ _ c.ranges.word.fits
+
+pub fits_row-requires : goal.fits_row-requires
+fits_row-requires c =
+    let p = c.requires in
+    let e = left_set c.loop-rest.invariant.left c.loop-rest-test.true in
+    (p.in_kind _ (high (goal.at.fits_row-requires c).In-loop-rest) e, p.in_name _ (high (goal.at.fits_row-requires c).In-loop-rest) e)
+
+pub offset_bounds-out-at : goal.offset_bounds-out-at
+offset_bounds-out-at c =
+    let p = written (goal.at.offset_bounds-out-at c).Then-fits_row in
+    let w = whole (goal.at.offset_bounds-out-at c).At-loop-rest in
+    omega arith
+
+pub bounds-out-at : goal.bounds-out-at
+bounds-out-at c = written (goal.at.bounds-out-at c).Then-fits_row
+
+pub overflow_add-at : goal.overflow_add-at
+overflow_add-at c =
+    let p = written (goal.at.overflow_add-at c).Then-fits_row in
+    let w = whole (goal.at.overflow_add-at c).At-loop-rest in
+    omega arith
+
+pub loop-rest-preserved : goal.loop-rest-preserved
+loop-rest-preserved c =
+    let t = c in
+    let s = t in
+    let room = s.requires.room in
+    let some = t.loop-rest-test.true in
+    elim c.if-fits_row.branch [
+      then-fits_row w ↦ rw (w.§§-is, w.§2) (word_yes _ _ _ _ s.loop-rest.invariant room some t.fits_row.ensures w.§if-fits_row.true)
+      | else-fits_row w ↦ rw (w.§§-is, w.§2) (word_no _ _ _ _ s.loop-rest.invariant room some t.fits_row.ensures w.§if-fits_row.false)
+    ]
+
+pub returns : goal.returns
+returns c = word_done _ _ _ _ c.loop-rest.invariant c.loop-rest-test.false

@@ -1,0 +1,23 @@
+-- `rows::search_row_by_row` meets its contract. The invariant: every row below i keeps the rules but the key's.
+-- Assumes nothing.
+use mathlib.Core.Bool.{not}
+use Prim.Native.Nat.{ℕ, ◌≤◌, ◌<◌, ◌-◌}
+use mathlib.Core.Path.{◌≡◌, sym, ap, ◌∙◌}
+use mathlib.Core.Bool.{false}
+use borrow.Author.Count.{below_more, below_none}
+use Rattle.tree.proofs.SearchLaws.{least_at, least_end}
+use Rattle.tree.specs.Table.{table_of}
+use Rattle.rows.specs.FirstBad.{first_bad_beside_key}
+use Rattle.tree.specs.Sound.{beside_key_ok}
+use borrow.Author.Rules.{rules}
+use Rattle.rows.proofs.search_row_by_row.Goals as goal
+
+pub returns-then-not-beside_key_ok : goal.returns-then-not-beside_key_ok
+unfolding first_bad_beside_key
+returns-then-not-beside_key_ok c =
+    sym (least_at _ _ _ c.loop-i-test.true c.loop-i.invariant.1
+    (ap not (sym c.beside_key_ok.ensures) ∙ (ap not c.if-not-beside_key_ok.true)))
+
+pub returns : goal.returns
+unfolding first_bad_beside_key
+returns c = least_end _ _ _ c.loop-i.invariant.0 c.loop-i-test.false c.loop-i.invariant.1

@@ -1,0 +1,14 @@
+-- `ways::way_start` meets its contract: the column has the parent. Assumes nothing.
+use borrow.Author.Rules.{rules}
+use borrow.Author.Tests.{eq-eqb, ne_eqb}
+use Rattle.ways.specs.Above.{way_start}
+use Rattle.ways.proofs.way_start.Goals as goal
+
+pub returns-then-own-eq0 : goal.returns-then-own-eq0
+unfolding way_start
+returns-then-own-eq0 c =
+    let pre = c.requires in rw (eq-eqb _ 0 c.if-own-eq0.true) (pre.2.parents _ pre.0)
+
+pub returns : goal.returns
+unfolding way_start
+returns c = rw (ne_eqb _ 0 c.if-own-eq0.false)
