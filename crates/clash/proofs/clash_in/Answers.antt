@@ -15,8 +15,7 @@ use Rattle.clash.proofs.clash_in.Goals as goal
 
 pub returns-then-row_in-n : goal.returns-then-row_in-n
 returns-then-row_in-n c =
-    let body = c in
-    sym (least_at _ _ _ body.loop-i-test.true body.loop-i.invariant.3
+    sym (least_at _ _ _ c.loop-i-test.true c.loop-i.invariant.3
     (rw (← c.row_in.ensures) (lt-ltb _ _ c.if-row_in-n.true)))
 
 pub returns : goal.returns

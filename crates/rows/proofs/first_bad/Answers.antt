@@ -11,5 +11,4 @@ use Rattle.rows.proofs.first_bad.Goals as goal
 pub returns : goal.returns
 unfolding first_bad first_bad_beside_key first_key row_ok
 returns c =
-    let rest = c.search_row_by_row.ensures in
-    simp (c.smaller.ensures, c.first_key.ensures, rest, least_both)
+    let rest = c.search_row_by_row.ensures in simp (c.smaller.ensures, c.first_key.ensures, rest, least_both)

@@ -32,8 +32,7 @@ first_in-requires c =
 pub returns : goal.returns
 unfolding first_bad first_bad_beside_key first_key row_ok
 returns c =
-    let keys = (c.first_in.ensures.value, c.first_in.ensures.chained_2) in
     let rest = c.search_row_by_row.ensures in record {
-      value = simp (c.smaller.ensures, keys.0, rest, least_both);
-      chained_2 = chained_all _ keys.1 c.smaller.ensures (rw keys.0 (least_le _ _));
+      value = simp (c.smaller.ensures, c.first_in.ensures.value, rest, least_both);
+      chained_2 = chained_all _ c.first_in.ensures.chained_2 c.smaller.ensures (rw c.first_in.ensures.value (least_le _ _));
     }

@@ -8,13 +8,11 @@ use Rattle.marks.proofs.mark.children_of.Goals as goal
 
 pub overflow_add-c-2 : goal.overflow_add-c-2
 overflow_add-c-2 c =
-    let t = c.requires in
-    omega (arith, turn_fits t)
+    let t = c.requires in omega (arith, turn_fits t)
 
 pub overflow_add-c-3 : goal.overflow_add-c-3
 overflow_add-c-3 c =
-    let t = c.requires in
-    omega (arith, turn_fits t)
+    let t = c.requires in omega (arith, turn_fits t)
 
 pub add_children-requires : goal.add_children-requires
 add_children-requires c = children_asks c.requires

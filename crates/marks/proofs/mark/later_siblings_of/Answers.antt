@@ -8,50 +8,37 @@ use Rattle.marks.proofs.mark.later_siblings_of.Goals as goal
 
 pub returns-then-q-eq0 : goal.returns-then-q-eq0
 returns-then-q-eq0 c =
-    let h = (c.requires.turn, c.requires.parents) in
-    later_none h.0 (turn_root h.0 h.1 c.if-q-eq0.true)
+    later_none c.requires.turn (turn_root c.requires.turn c.requires.parents c.if-q-eq0.true)
 
 pub overflow_add-c : goal.overflow_add-c
 overflow_add-c c =
-    let t = c.requires.turn in
-    omega (arith, turn_fits t)
+    let t = c.requires.turn in omega (arith, turn_fits t)
 
 pub overflow_add-c-2 : goal.overflow_add-c-2
 overflow_add-c-2 c =
-    let t = c.requires.turn in
-    omega (arith, turn_fits t)
+    let t = c.requires.turn in omega (arith, turn_fits t)
 
 pub offset_bounds-size-p : goal.offset_bounds-size-p
 offset_bounds-size-p c =
-    let h = (c.requires.turn, c.requires.parents) in
-    let t = h.0 in
-    omega (arith, parent_fits t _ (turn_parent t h.1 c.if-q-eq0.false))
+    let t = c.requires.turn in omega (arith, parent_fits t _ (turn_parent t c.requires.parents c.if-q-eq0.false))
 
 pub bounds-size-p : goal.bounds-size-p
 bounds-size-p c =
-    let h = (c.requires.turn, c.requires.parents) in
-    let t = h.0 in
-    omega (arith, parent_fits t _ (turn_parent t h.1 c.if-q-eq0.false))
+    let t = c.requires.turn in omega (arith, parent_fits t _ (turn_parent t c.requires.parents c.if-q-eq0.false))
 
 pub overflow_add-p : goal.overflow_add-p
 overflow_add-p c =
-    let h = (c.requires.turn, c.requires.parents) in
-    let t = h.0 in
-    omega (arith, parent_fits t _ (turn_parent t h.1 c.if-q-eq0.false))
+    let t = c.requires.turn in omega (arith, parent_fits t _ (turn_parent t c.requires.parents c.if-q-eq0.false))
 
 pub overflow_add-p-2 : goal.overflow_add-p-2
 overflow_add-p-2 c =
-    let h = (c.requires.turn, c.requires.parents) in
-    let t = h.0 in
-    omega (arith, parent_fits t _ (turn_parent t h.1 c.if-q-eq0.false))
+    let t = c.requires.turn in omega (arith, parent_fits t _ (turn_parent t c.requires.parents c.if-q-eq0.false))
 
 pub add_children-requires : goal.add_children-requires
 add_children-requires c =
-    let h = (c.requires.turn, c.requires.parents) in
-    later_asks h.0 _ (turn_parent h.0 h.1 c.if-q-eq0.false)
+    later_asks c.requires.turn _ (turn_parent c.requires.turn c.requires.parents c.if-q-eq0.false)
 
 pub returns : goal.returns
 returns c =
-    let h = (c.requires.turn, c.requires.parents) in
-    later_done h.0 _ (turn_parent h.0 h.1 c.if-q-eq0.false)
+    later_done c.requires.turn _ (turn_parent c.requires.turn c.requires.parents c.if-q-eq0.false)
     c.add_children.ensures

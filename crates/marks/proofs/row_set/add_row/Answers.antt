@@ -7,7 +7,5 @@ use Rattle.marks.proofs.row_set.add_row.Goals as goal
 
 pub returns : goal.returns
 returns c =
-    let a = c.args in
-    let p = c.requires in
-    rw (shifted_one (a.x % 64) (omega arith), shifted_one (a.x / 64) (omega arith))
-    (add_added a.words.now a.used a.x p.0 p.1 p.2)
+    let p = c.requires in rw (shifted_one (c.args.x % 64) (omega arith), shifted_one (c.args.x / 64) (omega arith))
+    (add_added c.args.words.now c.args.used c.args.x p.0 p.1 p.2)

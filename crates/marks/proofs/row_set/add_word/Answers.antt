@@ -6,7 +6,5 @@ use Rattle.marks.proofs.row_set.add_word.Goals as goal
 
 pub returns : goal.returns
 returns c =
-    let a = c.args in
-    let p = c.requires in
-    rw (shifted_one a.j p.1)
-    (add_joined a.words.now a.used a.j a.bits p.0 p.1 p.2 p.3 c.ranges.bits.fits)
+    let p = c.requires in rw (shifted_one c.args.j p.1)
+    (add_joined c.args.words.now c.args.used c.args.j c.args.bits p.0 p.1 p.2 p.3 c.ranges.bits.fits)

@@ -26,8 +26,7 @@ written s = set_index s.requires.1 s.loop-left.invariant
 
 pub loop-left-init : goal.loop-left-init
 loop-left-init c =
-    let h = c in
-    set_start _ _ _ _ h.requires.0 h.ranges.used.fits
+    set_start _ _ _ _ c.requires.0 c.ranges.used.fits
 
 pub offset_bounds-out-at : goal.offset_bounds-out-at
 offset_bounds-out-at c =
@@ -43,25 +42,16 @@ slice_bounds-part-start c = written (goal.at.slice_bounds-part-start c).At-loop-
 
 pub drain_word-at-requires : goal.drain_word-at-requires
 drain_word-at-requires c =
-    let s = c in
-    let p = s.requires.1 in
-    set_asks p s.loop-left.invariant c.loop-left-test.true
+    let p = c.requires.1 in set_asks p c.loop-left.invariant c.loop-left-test.true
 
 pub overflow_add-at : goal.overflow_add-at
 overflow_add-at c =
-    let s = c in
-    let h = s in
-    let some = c.loop-left-test.true in
-    omega (arith, set_sum h.requires.1 s.loop-left.invariant some c.drain_word-at.ensures, h.well-formed)
+    let some = c.loop-left-test.true in omega (arith, set_sum c.requires.1 c.loop-left.invariant some c.drain_word-at.ensures, c.well_formed)
 
 pub loop-left-preserved : goal.loop-left-preserved
 loop-left-preserved c =
-    let s = c in
-    let p = s.requires.1 in
-    let some = c.loop-left-test.true in
-    set_next p s.loop-left.invariant some c.drain_word-at.ensures
+    let p = c.requires.1 in let some = c.loop-left-test.true in set_next p c.loop-left.invariant some c.drain_word-at.ensures
 
 pub returns : goal.returns
 returns c =
-    let p = c.requires.1 in
-    set_done p c.loop-left.invariant c.loop-left-test.false
+    let p = c.requires.1 in set_done p c.loop-left.invariant c.loop-left-test.false

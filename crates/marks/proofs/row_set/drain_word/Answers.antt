@@ -27,18 +27,14 @@ whole s = word_length _ _ _ _ s.loop-rest.invariant s.requires.room
 written : (c : Then-fits_row)
     → c.loop-rest.at < length c.loop-rest.out
 written c =
-    let t = c in
-    let s = t in
-    let room = s.requires.room in
-    word_index _ _ _ _ s.loop-rest.invariant room t.loop-rest-test.true t.fits_row.ensures c.if-fits_row.true
+    let room = c.requires.room in word_index _ _ _ _ c.loop-rest.invariant room c.loop-rest-test.true c.fits_row.ensures c.if-fits_row.true
 
 pub loop-rest-init : goal.loop-rest-init
 loop-rest-init c = word_start _ _ _ _ c.ranges.word.fits
 
 pub fits_row-requires : goal.fits_row-requires
 fits_row-requires c =
-    let p = c.requires in
-    let e = left_set c.loop-rest.invariant.left c.loop-rest-test.true in
+    let p = c.requires in let e = left_set c.loop-rest.invariant.left c.loop-rest-test.true in
     (p.in_kind _ (high (goal.at.fits_row-requires c).In-loop-rest) e, p.in_name _ (high (goal.at.fits_row-requires c).In-loop-rest) e)
 
 pub offset_bounds-out-at : goal.offset_bounds-out-at
@@ -58,13 +54,9 @@ overflow_add-at c =
 
 pub loop-rest-preserved : goal.loop-rest-preserved
 loop-rest-preserved c =
-    let t = c in
-    let s = t in
-    let room = s.requires.room in
-    let some = t.loop-rest-test.true in
-    elim c.if-fits_row.branch [
-      then-fits_row w ↦ rw (w.§§-is, w.§2) (word_yes _ _ _ _ s.loop-rest.invariant room some t.fits_row.ensures w.§if-fits_row.true)
-      | else-fits_row w ↦ rw (w.§§-is, w.§2) (word_no _ _ _ _ s.loop-rest.invariant room some t.fits_row.ensures w.§if-fits_row.false)
+    let room = c.requires.room in let some = c.loop-rest-test.true in elim c.if-fits_row.branch [
+      then-fits_row w ↦ rw (w.at-is, w.out-is) (word_yes _ _ _ _ c.loop-rest.invariant room some c.fits_row.ensures w.if-fits_row.true)
+      | else-fits_row w ↦ rw (w.at-is, w.out-is) (word_no _ _ _ _ c.loop-rest.invariant room some c.fits_row.ensures w.if-fits_row.false)
     ]
 
 pub returns : goal.returns

@@ -13,40 +13,27 @@ returns-then-end-from c = walk_nothing c.requires c.if-end-from.true
 
 pub holds-requires : goal.holds-requires
 holds-requires c =
-    let h = c.requires in
-    omega (arith, row_in_use h.shape h.row h.inside _ c.if-end-from.false, h.shape.few)
+    let h = c.requires in omega (arith, row_in_use h.shape h.row h.inside _ c.if-end-from.false, h.shape.few)
 
 pub loop-w-init : goal.loop-w-init
 loop-w-init c = walk_start c.requires
 
 pub word_end-requires : goal.word_end-requires
 word_end-requires c =
-    let h = c.requires in
-    let l = c.loop-w-test.true in
-    (l, omega (arith, row_in_use h.shape h.row h.inside c.loop-w.w l, h.shape.few))
+    let h = c.requires in let l = c.loop-w-test.true in (l, omega (arith, row_in_use h.shape h.row h.inside c.loop-w.w l, h.shape.few))
 
 pub add_bits-mark-requires : goal.add_bits-mark-requires
 add_bits-mark-requires c =
-    let s = c in
-    let h = s.requires in
-    let l = c.loop-w-test.true in
-    let e = c.word_end.ensures in
-    let g = c.children_in_word-s.ensures in (
-      omega (arith, row_in_use h.shape h.row h.inside s.loop-w.w l, h.shape.few),
-      s.loop-w.invariant.joined.set,
-      gathered_some (walk_gathers h s.loop-w.invariant l e.1 e.0 e.2) g.0 (omega (arith, e.0, g.1)),
+    let h = c.requires in let l = c.loop-w-test.true in let e = c.word_end.ensures in let g = c.children_in_word-s.ensures in (
+      omega (arith, row_in_use h.shape h.row h.inside c.loop-w.w l, h.shape.few),
+      c.loop-w.invariant.joined.set,
+      gathered_some (walk_gathers h c.loop-w.invariant l e.1 e.0 e.2) g.0 (omega (arith, e.0, g.1)),
     )
 
 pub loop-w-preserved : goal.loop-w-preserved
 loop-w-preserved c =
-    let s = c in
-    let h = s.requires in
-    let e = c.word_end.ensures in
-    let g = c.children_in_word-s.ensures in
-    let l = c.loop-w-test.true in
-    walk_next h s.loop-w.invariant l e.1 g.0 c.add_bits-mark.ensures
+    let h = c.requires in let e = c.word_end.ensures in let g = c.children_in_word-s.ensures in let l = c.loop-w-test.true in walk_next h c.loop-w.invariant l e.1 g.0 c.add_bits-mark.ensures
 
 pub returns : goal.returns
 returns c =
-    let s = c in
-    walk_done s.requires s.loop-w.invariant c.loop-w-test.false
+    walk_done c.requires c.loop-w.invariant c.loop-w-test.false

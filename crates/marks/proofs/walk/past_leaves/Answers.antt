@@ -13,40 +13,28 @@ use Rattle.marks.proofs.walk.past_leaves.Goals as goal
 
 pub offset_bounds-size-w : goal.offset_bounds-size-w
 offset_bounds-size-w c =
-    let h = c.requires.0 in
-    let l = c.loop-w-test.true in
-    omega (arith, row_in_use h.shape h.row h.inside c.loop-w.w l, h.shape.few)
+    let h = c.requires.0 in let l = c.loop-w-test.true in omega (arith, row_in_use h.shape h.row h.inside c.loop-w.w l, h.shape.few)
 
 pub bounds-size-w : goal.bounds-size-w
 bounds-size-w c =
-    let h = c.requires.0 in
-    let l = c.loop-w-test.true in
-    omega (arith, row_in_use h.shape h.row h.inside c.loop-w.w l, h.shape.in_size)
+    let h = c.requires.0 in let l = c.loop-w-test.true in omega (arith, row_in_use h.shape h.row h.inside c.loop-w.w l, h.shape.in_size)
 
 pub overflow_add-result : goal.overflow_add-result
 overflow_add-result c =
-    let s = c in
-    let h = s.requires.0 in
-    omega (arith, gathers_inside h s.loop-w.w c.loop-w-test.true, h.shape.few)
+    let h = c.requires.0 in omega (arith, gathers_inside h c.loop-w.w c.loop-w-test.true, h.shape.few)
 
 pub returns-then-below-ne0 : goal.returns-then-below-ne0
 returns-then-below-ne0 c =
-    let s = c in
-    let a = s.args in
-    let v = s.loop-w.w in
-    let r : v + 1 + at a.size.now v ≡ v + at a.size.now v + 1 = omega arith in
+    let v = c.loop-w.w in let r : v + 1 + at c.args.size.now v ≡ v + at c.args.size.now v + 1 = omega arith in
     rw (shifted_one (v % 64) (omega arith)) (
-      gathered_next s.requires.0 s.loop-w.invariant.0 c.loop-w-test.true _ r,
-      omega (arith, s.loop-w.invariant.1),
+      gathered_next c.requires.0 c.loop-w.invariant.0 c.loop-w-test.true _ r,
+      omega (arith, c.loop-w.invariant.1),
     )
 
 pub loop-w-preserved : goal.loop-w-preserved
 loop-w-preserved c =
-    let s = c in
-    let a = s.args in
-    let v = s.loop-w.w in
-    let r : v + 1 ≡ v + at a.size.now v + 1 = omega (arith, c.if-below-ne0.false) in
+    let v = c.loop-w.w in let r : v + 1 ≡ v + at c.args.size.now v + 1 = omega (arith, c.if-below-ne0.false) in
     rw (shifted_one (v % 64) (omega arith)) (
-      gathered_next s.requires.0 s.loop-w.invariant.0 c.loop-w-test.true _ r,
-      omega (arith, s.loop-w.invariant.1),
+      gathered_next c.requires.0 c.loop-w.invariant.0 c.loop-w-test.true _ r,
+      omega (arith, c.loop-w.invariant.1),
     )

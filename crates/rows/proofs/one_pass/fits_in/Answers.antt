@@ -17,5 +17,4 @@ returns-then-own-gt63 c = simp (le-leb _ _ c.if-most-own.false, lt-leb _ _ c.if-
 pub returns : goal.returns
 unfolding fits_in
 returns c =
-    let tests = c in
-    simp (le-leb _ _ tests.if-most-own.false, le-leb _ _ tests.if-own-gt63.false) (cc)
+    simp (le-leb _ _ c.if-most-own.false, le-leb _ _ c.if-own-gt63.false) (cc)

@@ -20,10 +20,7 @@ returns-in-0 c = simp (c.if-name-eq0.true, c.in-0.is, and-true)
 pub returns-in-2-to-3 : goal.returns-in-2-to-3
 unfolding kind_ok name_ok has_name
 returns-in-2-to-3 c =
-    let kind = c.args.kind in
-    let low = c.if-kind-lt2.false in
-    let high = c.if-kind-lt4.true in
-    simp (
+    let kind = c.args.kind in simp (
       c.if-name-eq0.true,
       le-leb kind 4 (omega arith),
       lt-leb kind 1 (omega arith),
@@ -37,8 +34,7 @@ returns-in-2-to-3 c =
 pub returns-in_default : goal.returns-in_default
 unfolding kind_ok name_ok has_name
 returns-in_default c =
-    let one = c.args.kind in
-    simp (c.if-name-eq0.true, eq-eqb one 1 (omega (arith, c.in_default-1.rest)), and-false)
+    let one = c.args.kind in simp (c.if-name-eq0.true, eq-eqb one 1 (omega (arith, c.in_default.in_default-own.rest)), and-false)
 
 -- a processing instruction without a name, or no kind
 nameless : (kind size own name : ℕ) → name ≡ 0 → 4 ≤ kind → false ≡ (kind_ok kind size own && name_ok kind name)
@@ -52,7 +48,7 @@ nameless kind size own name z l = ⊎_elim no_name no_kind (eq-or-lt_of_le l)
     no_kind h = simp (lt-leb kind 4 h)
 
 pub returns-in_default-2 : goal.returns-in_default-2
-returns-in_default-2 c = nameless _ _ _ _ c.if-name-eq0.true c.if-kind-lt4.false
+returns-in_default-2 c = nameless _ _ _ _ c.if-name-eq0.true (omega arith)
 
 -- a processing instruction, or a name where there is to be none
 named : (kind size own name : ℕ) → (name ≡ 0 → ⊥) → (kind ≡ 1 → ⊥)

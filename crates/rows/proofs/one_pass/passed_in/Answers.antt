@@ -15,6 +15,7 @@ use Rattle.rows.specs.OnePass.{fits_in}
 use Rattle.rows.proofs.OnePassLaws.{Followed, followed_start, row_ends, followed_more, followed_all}
 use borrow.Author.Rules.{rules}
 use Rattle.rows.proofs.one_pass.passed_in.Goals as goal
+use Rattle.rows.proofs.one_pass.passed_in.Goals.{Else-not-kind_fits}
 
 pub loop-i-init : goal.loop-i-init
 loop-i-init c = (
@@ -26,67 +27,47 @@ loop-i-init c = (
   below_none _,
 )
 
--- RAW
-module _ (c : tie.Else3 invariant-loop decreases-loop) where
-  abbrev fitted : tie.Else2 invariant-loop decreases-loop
-  fitted = c.before.before.before.before
-
-  abbrev linked : tie.After-link invariant-loop decreases-loop
-  linked = fitted.before.before.before.before.before.before.before.before.before
-
-  abbrev good : tie.Else1 invariant-loop decreases-loop
-  good = linked.before.before.before
-
-  abbrev turn : tie.In-loop invariant-loop decreases-loop
-  turn = good.before.before.before.before
-
-  abbrev start : tie.Start invariant-loop decreases-loop
-  start = turn.before.before.before.before.before.before.before.before.before
-
-  fits : fits_in turn.before.loop.ends turn.before.loop.most turn.before.loop.i
-      (at start.args.level.now turn.before.loop.i) (at start.args.size.now turn.before.loop.i)
+-- row i has passed all tests
+module _ (c : Else-not-kind_fits) where
+  fits : fits_in c.loop-i.ends c.loop-i.most c.loop-i.i (at c.args.level.now c.loop-i.i) (at c.args.size.now c.loop-i.i)
       ≡ true
-  fits = sym fitted.before.fits_in.ensures ∙ not-false fitted.before.fits_in.result fitted.if2.left
+  fits = sym c.fits_in.ensures ∙ c.if-not-fits_in.false
 
-  kinds : (kind_ok (at start.args.kind.now turn.before.loop.i)
-      (at start.args.size.now turn.before.loop.i) (at start.args.level.now turn.before.loop.i)
-      && name_ok (at start.args.kind.now turn.before.loop.i)
-      (at start.args.name.now turn.before.loop.i)) ≡ true
-  kinds = sym c.before.kind-fits.ensures ∙ not-false c.before.kind-fits.result c.if3.false
+  kinds : (kind_ok (at c.args.kind.now c.loop-i.i) (at c.args.size.now c.loop-i.i) (at c.args.level.now c.loop-i.i)
+      && name_ok (at c.args.kind.now c.loop-i.i) (at c.args.name.now c.loop-i.i)) ≡ true
+  kinds = sym c.kind_fits.ensures ∙ c.if-not-kind_fits.false
 
-  key_good : key_ok start.args.key.now turn.before.loop.i ≡ true
-  key_good =
-      sym good.before.key-ok.ensures ∙ not-false good.before.key-ok.result good.if1.left
+  key_good : key_ok c.args.key.now c.loop-i.i ≡ true
+  key_good = sym c.key_ok.ensures ∙ c.if-not-key_ok.false
 
-  bounds : (at start.args.level.now turn.before.loop.i ≤ 63)
-      × (turn.before.loop.i + at start.args.size.now turn.before.loop.i < start.args.count)
-  bounds = row_ends _ start.pre.0 _ _ _ turn.loop-test.taken turn.before.loop.inv.4 fits
+  bounds : (at c.args.level.now c.loop-i.i ≤ 63) × (c.loop-i.i + at c.args.size.now c.loop-i.i < c.args.count)
+  bounds = row_ends _ c.requires.in_use _ _ _ c.loop-i-test.true c.loop-i.invariant.4 fits
 
 pub overflow_add-most : goal.overflow_add-most
-overflow_add-most c = omega (arith, bounds c)
+overflow_add-most c = omega (arith, bounds (goal.at.overflow_add-most c).Else-not-kind_fits)
 
 pub overflow_add-ends : goal.overflow_add-ends
-overflow_add-ends c = omega (arith, bounds c, (linked c).link.ensures.0, (start c).requires.0.few)
+overflow_add-ends c = omega (arith, bounds (goal.at.overflow_add-ends c).Else-not-kind_fits, c.link-after.ensures.value, c.requires.in_use.few)
 
 pub overflow_cast-ends-in-loop-i : goal.overflow_cast-ends-in-loop-i
-overflow_cast-ends-in-loop-i c = omega (arith, bounds c, (linked c).link.ensures.0, (start c).requires.0.few)
+overflow_cast-ends-in-loop-i c = omega (arith, bounds (goal.at.overflow_cast-ends-in-loop-i c).Else-not-kind_fits, c.link-after.ensures.value, c.requires.in_use.few)
 
 pub offset_bounds-ends-most : goal.offset_bounds-ends-most
-offset_bounds-ends-most c = omega (arith, bounds c)
+offset_bounds-ends-most c = omega (arith, bounds (goal.at.offset_bounds-ends-most c).Else-not-kind_fits)
 
 pub bounds-ends-most : goal.bounds-ends-most
-bounds-ends-most c = omega (arith, bounds c)
+bounds-ends-most c = omega (arith, bounds (goal.at.bounds-ends-most c).Else-not-kind_fits)
 
 pub loop-i-preserved : goal.loop-i-preserved
 loop-i-preserved c = (
   search rules,
   search rules,
   search rules,
-  rw (linked c).link.ensures.0 (linked c).link.ensures.1,
-  rw (linked c).link.ensures.0
-      (followed_more _ (start c).requires.0 _ _ _ (turn c).loop-test.true (turn c).before.loop.invariant.4 (fits c)
-      (kinds c)),
-  rw (linked c).link.ensures.0 (below_more _ _ (turn c).before.loop.invariant.5 (key_good c)),
+  rw c.link-after.ensures.value c.link-after.ensures.chained_2,
+  rw c.link-after.ensures.value
+      (followed_more _ c.requires.in_use _ _ _ c.loop-i-test.true c.loop-i.invariant.4 (fits (goal.at.loop-i-preserved c).Else-not-kind_fits)
+      (kinds (goal.at.loop-i-preserved c).Else-not-kind_fits)),
+  rw c.link-after.ensures.value (below_more _ _ c.loop-i.invariant.5 (key_good (goal.at.loop-i-preserved c).Else-not-kind_fits)),
 )
 
 pub returns : goal.returns
