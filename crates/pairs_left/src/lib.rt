@@ -9,7 +9,7 @@ ghost use Rattle.pairs_left.specs.Left.{left_of, Ready, Carries, PutRoom, Puts, 
 use moves::moved::{row_after, stays};
 
 // The old count, what the edit answered, and where its first moved row went.
-#[derive(Drop)]
+#[derive(Clone, Copy)]
 pub struct Move {
     pub old: usize,
     pub first: usize,
@@ -56,7 +56,7 @@ fn write_all(
 }
 
 // How many pairs were read, and how many of them stay and were written.
-#[derive(Drop)]
+#[derive(Clone, Copy)]
 struct Reached {
     read: usize,
     written: usize,

@@ -1,0 +1,26 @@
+-- `direct::earlier::rising_rows` meets its contract. The invariant, `Risen`: the rows reached below the floor, which is
+-- the last context passed, are written. Assumes nothing.
+use Prim.Native.Nat.{◌-◌}
+use borrow.Author.Rules.{rules}
+use lib.ListN.{length}
+use Rattle.scan.specs.Want.{fits}
+use Rattle.scan.proofs.RangeLaws.{cover_length}
+use Rattle.direct.proofs.RisingLaws.{Risen, rise_start, rise_asks, rise_next, rise_done}
+use Rattle.direct.proofs.earlier.rising_rows.Goals as goal
+
+pub loop-i-init : goal.loop-i-init
+loop-i-init c =
+    rise_start c.requires.role_in c.requires.parents.0 c.requires.parents.1
+
+pub append_earlier-next-requires : goal.append_earlier-next-requires
+append_earlier-next-requires c =
+    rise_asks c.requires.role_in c.requires.parents.0 c.requires.parents.1 c.loop-i.invariant c.loop-i-test.true
+
+pub loop-i-preserved : goal.loop-i-preserved
+loop-i-preserved c =
+    rise_next c.requires.role_in c.requires.parents.0 c.requires.parents.1 c.loop-i.invariant c.loop-i-test.true
+    c.append_earlier-next.ensures
+
+pub returns : goal.returns
+returns c =
+    rise_done c.requires.role_in c.requires.parents.0 c.requires.parents.1 c.loop-i.invariant c.loop-i-test.false

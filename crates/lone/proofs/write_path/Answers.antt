@@ -1,0 +1,18 @@
+-- `lone::write_path` meets its contract. The loop's invariant, `PathLeft`: the rows of the path from `at` are to be
+-- the first k results, and the rows below them are written. Assumes nothing.
+use Prim.Native.Nat.{◌-◌}
+use native.Mathlib.Omega.{arith}
+use borrow.Author.Rules.{rules}
+use Rattle.lone.proofs.PathLaws.{PathLeft, path_start, path_next, path_done, path_some, path_few, path_length}
+use Rattle.lone.proofs.write_path.Goals as goal
+
+pub overflow_sub-v : goal.overflow_sub-v
+overflow_sub-v c = path_some c.requires c.loop-k.invariant c.loop-k-test.true
+
+pub loop-k-preserved : goal.loop-k-preserved
+loop-k-preserved c =
+    let more = c.loop-k-test.true in let some = path_some c.requires c.loop-k.invariant more in
+    path_next c.requires c.loop-k.invariant (c.loop-k.k - 1) (c.loop-k.at - 1) (omega arith) (omega arith)
+
+pub returns : goal.returns
+returns c = path_done c.requires c.loop-k.invariant c.loop-k-test.false
