@@ -10,7 +10,7 @@ ghost use Rattle.answer.specs.Version.{version};
 use tree::{Batched, Carried, Checked, Edited, Found, Located, Stepped};
 
 #[repr(C)]
-#[derive(Drop)]
+#[derive(Clone, Copy)]
 pub struct Answer {
     pub refusal: usize,
     pub place: usize,
@@ -20,7 +20,7 @@ pub struct Answer {
 }
 
 #[repr(C)]
-#[derive(Drop)]
+#[derive(Clone, Copy)]
 pub struct FoundAnswer {
     pub refusal: usize,
     pub place: usize,

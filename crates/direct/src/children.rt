@@ -7,7 +7,7 @@ ghost use Rattle.direct.specs.Children.{child_that, ChildOrEnd, ChildrenIn};
 use scan::want::{Want, fits_row};
 
 // Where a walk from child to child is: the next row, and how many rows are written.
-#[derive(Drop)]
+#[derive(Clone, Copy)]
 struct Stand {
     row: usize,
     written: usize,

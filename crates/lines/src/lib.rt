@@ -110,7 +110,7 @@ pub fn count_all(
 }
 
 // How many lines a step has, and how many distinct pairs remain when redundant ones are dropped.
-#[derive(Drop)]
+#[derive(Clone, Copy)]
 pub struct Tally {
     pub listed: usize,
     pub kept: usize,

@@ -5,7 +5,7 @@ ghost use Rattle.marks.specs.Mark.{child_in, Joined, AddsChildren, Gathers, Gath
 use super::row_set;
 
 // Where a walk over one word is: the next row, and the bits of the rows met.
-#[derive(Drop)]
+#[derive(Clone, Copy)]
 struct Spot {
     row: usize,
     word: u64,

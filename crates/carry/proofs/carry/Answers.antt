@@ -1,0 +1,41 @@
+-- `carry::carry` meets its contract: refused by a check, without room, or with the new list written. Assumes nothing.
+use mathlib.Core.Path.{sym, ◌∙◌}
+use native.Mathlib.Omega.{arith}
+use mir.Syntax.{w64}
+use mir.Facts.{to_z-of_z}
+use Rattle.carry.proofs.CarryLeavesLaws.{leaves_refused, call_moves, leaves_full, call_ready, leaves_written}
+use borrow.Author.Rules.{rules}
+use Rattle.carry.proofs.carry.Goals as goal
+
+pub moved_to-to-requires : goal.moved_to-to-requires
+moved_to-to-requires c =
+    call_moves _ _ _ _ _ (sym c.check_call-checked.ensures ∙ c.in-Passed.is)
+
+pub returns-then-smaller-left : goal.returns-then-smaller-left
+returns-then-smaller-left c =
+    let back = to_z-of_z {w = w64} c.ranges.moved in
+    let e = rw back at (sym c.check_call-checked.ensures ∙ c.in-Passed.is) in
+    let l = rw back at c.moved_to-to.ensures in
+    leaves_full _ _ _ _ _ _ _ e _ _ l c.count_left-left.ensures
+    (omega (arith, c.if-smaller-left.true, c.smaller.ensures))
+
+pub write-requires : goal.write-requires
+write-requires c =
+    call_ready _ _ _ _ _ _ _ (sym c.check_call-checked.ensures ∙ c.in-Passed.is)
+    _ _ c.moved_to-to.ensures c.count_left-left.ensures
+    (omega (arith, c.if-smaller-left.false, c.smaller.ensures))
+
+pub returns-in-Refused : goal.returns-in-Refused
+returns-in-Refused c =
+    let back = to_z-of_z {w = w64} c.ranges.moved in
+    leaves_refused _ _ _ _ _ _ _ _ _
+    (rw back at (sym c.check_call-checked.ensures ∙ c.in-Refused.is))
+
+pub returns-else-smaller-left : goal.returns-else-smaller-left
+returns-else-smaller-left c =
+    let back = to_z-of_z {w = w64} c.ranges.moved in
+    let e = rw back at (sym c.check_call-checked.ensures ∙ c.in-Passed.is) in
+    let l = rw back at c.moved_to-to.ensures in
+    leaves_written _ _ _ _ _ _ _ e _ _ l c.count_left-left.ensures
+    (omega (arith, c.if-smaller-left.false, c.smaller.ensures))
+    (rw back at c.write.ensures)
