@@ -2,40 +2,45 @@
 // result with the key of its row, then the number of results and the kept count.
 #![tactic(auto)]
 
-use io::print_decimal;
-use libc::STDOUT_FILENO;
+use std::io;
 use tree::{Ask, Stepped};
 
-// Writes a number and what stands behind it.
-fn print_number(n: usize, behind: &[u8]) {
-    print_decimal(STDOUT_FILENO, n as u64);
-    io::write_all(STDOUT_FILENO, behind);
-}
-
 // Writes result number i, a line: role, row, key of that row. What is out of reach is left out.
-fn print_line(key: &[usize], role: &[usize], row: &[usize], i: usize) {
+fn print_line(
+    rt: &impl Print,
+    key: &[usize],
+    role: &[usize],
+    row: &[usize],
+    i: usize,
+) -> io::Result<()> {
     if i < role.len() {
-        print_number(role[i], b" ");
+        print!(rt; "{} ", role[i])?;
     }
     if i < row.len() {
         let at = row[i];
-        print_number(at, b" ");
+        print!(rt; "{at} ")?;
         if at < key.len() {
-            print_number(key[at], b"\n");
+            println!(rt; "{}", key[at])?;
         }
     }
+    Ok(())
 }
 
 // Writes the first n results.
-fn print_results(key: &[usize], role: &[usize], row: &[usize], n: usize) {
-    let mut i = 0;
-    while i < n {
-        print_line(key, role, row, i);
-        i += 1;
+fn print_results(
+    rt: &impl Print,
+    key: &[usize],
+    role: &[usize],
+    row: &[usize],
+    n: usize,
+) -> io::Result<()> {
+    for i in 0..n {
+        print_line(rt, key, role, row, i)?;
     }
+    Ok(())
 }
 
-fn main() {
+fn main(rt: HostRuntime) -> io::Result<()> {
     let key: [usize; 10] = [10, 20, 21, 22, 23, 24, 30, 31, 32, 40];
     let size: [usize; 10] = [9, 4, 1, 0, 1, 0, 2, 1, 0, 0];
     let level: [usize; 10] = [0, 1, 2, 3, 2, 3, 1, 2, 3, 1];
@@ -63,16 +68,11 @@ fn main() {
         &mut out_row,
     );
     match stepped {
-        Stepped::Refused(number, _) => {
-            io::write_all(STDOUT_FILENO, b"refusal ");
-            print_number(number, b"\n");
-        }
+        Stepped::Refused(number, _) => println!(rt; "refusal {number}"),
         Stepped::Listed(results, kept) => {
-            io::write_all(STDOUT_FILENO, b"role row key\n");
-            print_results(&key, &out_role, &out_row, results);
-            io::write_all(STDOUT_FILENO, b"pairs ");
-            print_number(results, b" kept ");
-            print_number(kept, b"\n");
+            println!(rt; "role row key")?;
+            print_results(&rt, &key, &out_role, &out_row, results)?;
+            println!(rt; "pairs {results} kept {kept}")
         }
     }
 }

@@ -1,0 +1,12 @@
+-- `reach_c::reach_find` meets its contract: the library's answer, put into C's struct. Assumes nothing.
+use mathlib.Core.Path.{sym, ap, subst, ◌∙◌}
+use Prim.Native.Nat.{◌≤◌}
+use Rattle.tree.specs.declared.Found.{Found}
+use Rattle.answer.specs.Found.{parent_found, find_answer}
+use Rattle.reach_c.proofs.FindAnswerLaws.{parent_small}
+use borrow.Author.Rules.{rules}
+use Rattle.reach_c.proofs.reach_find.Goals as goal
+
+pub of_find-requires : goal.of_find-requires
+of_find-requires c =
+    subst (λ (f : Found). parent_found f ≤ 4096) (sym c.find.ensures) (parent_small _ _)
