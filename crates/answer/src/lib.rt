@@ -159,5 +159,5 @@ pub fn of_batch(batched: Batched) -> Answer
 pub fn library_version() -> usize
     ensures { result ≡ version }
 {
-    600
+    500
 }

@@ -63,7 +63,7 @@ fn edit_item(
     if item.code == 1 {
         return deletion::delete_at(key, size, level, kind, name, count, where_is(level, row));
     }
-    renaming::rename_at(key, size, level, kind, name, count, row, item.name)
+    renaming::rename_row(key, size, level, kind, name, count, row, item.name)
 }
 
 // The items one by one, until one is refused.

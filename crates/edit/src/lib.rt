@@ -9,7 +9,6 @@ ghost use Rattle.edit_at.specs.EditLeaves.{EditLeaves};
 
 use edit_at::{deletion, renaming};
 use insert_at::insert_at;
-use located::row_there;
 use tree::{Checked, Edited, Found};
 
 // A piece becomes the last child of the row of a key, or refusal 1, 2, 9, 10, 11, 12, 13 or 14.
@@ -99,6 +98,5 @@ pub fn rename(
     let Found::At(located) = found else {
         return Edited::Refused(9, 0);
     };
-    let row = row_there(located);
-    renaming::rename_at(key, size, level, kind, name, count, row, new_name)
+    renaming::rename_at(key, size, level, kind, name, count, located, new_name)
 }

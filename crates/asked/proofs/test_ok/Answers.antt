@@ -17,7 +17,7 @@ returns-in_default c =
 pub returns-in-0-to-7 : goal.returns-in-0-to-7
 returns-in-0-to-7 c =
     elim c.in-0-to-7-1.branch [
-      in-7-1 w ↦ let e = w.in-7-1.keys2 in sym (test_plain _ _ (omega arith) (λ q. omega arith) (λ q. omega arith))
+      | in-7-1 w ↦ let e = w.in-7-1.keys2 in sym (test_plain _ _ (omega arith) (λ q. omega arith) (λ q. omega arith))
       | in_default+then-test-lt6 w ↦ sym (test_plain _ _ (omega arith) (λ q. w.in_default-1.rest.0.1 (inl q))
-      (λ q. w.in_default-1.rest.0.1 (inr q)))
+          (λ q. w.in_default-1.rest.0.1 (inr q)))
     ]

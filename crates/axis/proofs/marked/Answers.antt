@@ -8,16 +8,16 @@ use Rattle.axis.proofs.marked.Goals as goal
 pub mark_parents-requires : goal.mark_parents-requires
 unfolding climbs_axis
 mark_parents-requires c = record {
-      marks = c.requires.marks;
-      parents = c.requires.parents (ap climbs_axis c.in-5.is);
-    }
+  marks = c.requires.marks;
+  parents = c.requires.parents (ap climbs_axis c.in-5.is);
+}
 
 pub mark_later_siblings-requires : goal.mark_later_siblings-requires
 unfolding climbs_axis
 mark_later_siblings-requires c = record {
-      marks = c.requires.marks;
-      parents = c.requires.parents (ap climbs_axis c.in-10.is);
-    }
+  marks = c.requires.marks;
+  parents = c.requires.parents (ap climbs_axis c.in-10.is);
+}
 
 pub mark_earlier_siblings-requires : goal.mark_earlier_siblings-requires
 unfolding climbs_axis

@@ -8,9 +8,9 @@ use Rattle.axis.proofs.ranged.Goals as goal
 
 pub rows_after-requires : goal.rows_after-requires
 rows_after-requires c = record {
-      role_in = role_as c.in-8.is c.requires.role_in;
-      roots = c.requires.roots (side_of _ (inl c.in-8.is));
-    }
+  role_in = role_as c.in-8.is c.requires.role_in;
+  roots = c.requires.roots (side_of _ (inl c.in-8.is));
+}
 
 pub rows_before-requires : goal.rows_before-requires
 rows_before-requires c =

@@ -28,17 +28,16 @@ module _ (c : In-loop-i) where
       (item_left c.loop-i.so_far _ goes, list.few, list.keys, list.names)
 
 pub loop-i-preserved : goal.loop-i-preserved
-loop-i-preserved c =
-    (
-      rw c.after_item-so_far.ensures
-          (so_far_later _ _ _ (left (goal.at.loop-i-preserved c).In-loop-i).2 (left (goal.at.loop-i-preserved c).In-loop-i).3 _ c.loop-i.so_far _ refl
-          c.loop-i.invariant.0 (goes (goal.at.loop-i-preserved c).In-loop-i) c.edit_item-edited.result c.edit_item-edited.ensures),
-      search rules,
-      search rules,
-      search rules,
-      search rules,
-      search rules,
-    )
+loop-i-preserved c = (
+  rw c.after_item-so_far.ensures
+      (so_far_later _ _ _ (left (goal.at.loop-i-preserved c).In-loop-i).2 (left (goal.at.loop-i-preserved c).In-loop-i).3 _ c.loop-i.so_far _ refl
+      c.loop-i.invariant.0 (goes (goal.at.loop-i-preserved c).In-loop-i) c.edit_item-edited.result c.edit_item-edited.ensures),
+  search rules,
+  search rules,
+  search rules,
+  search rules,
+  search rules,
+)
 
 pub returns : goal.returns
 returns c =

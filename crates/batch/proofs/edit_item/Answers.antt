@@ -29,4 +29,4 @@ returns-then-item-eq1 c =
 pub returns : goal.returns
 returns c =
     rw (item_renames _ c.requires.sound c.args.item c.requires.row_value c.if-count-row.false c.if-item-eq1.false)
-    c.rename_at.ensures
+    c.rename_row.ensures

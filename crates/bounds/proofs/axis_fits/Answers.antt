@@ -12,9 +12,9 @@ use Rattle.bounds.proofs.axis_fits.Goals as goal
 
 pub parent_spans-requires : goal.parent_spans-requires
 parent_spans-requires c = record {
-      few_rows = c.requires.few_rows;
-      parents = c.requires.parents (siblings_climb _ (omega arith) (omega arith));
-    }
+  few_rows = c.requires.few_rows;
+  parents = c.requires.parents (siblings_climb _ (omega arith) (omega arith));
+}
 
 pub returns-in-1 : goal.returns-in-1
 returns-in-1 c = λ e. le_trans (one_most c.requires.few_rows _ c.in-1.is) (leb-true _ _ e)

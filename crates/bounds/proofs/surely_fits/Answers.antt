@@ -11,9 +11,9 @@ use Rattle.bounds.proofs.surely_fits.Goals as goal
 
 pub axis_fits-requires : goal.axis_fits-requires
 axis_fits-requires c = record {
-      few_rows = rows_few _ _ _ _ _ c.requires;
-      parents = c.requires.links.parents;
-    }
+  few_rows = rows_few _ _ _ _ _ c.requires;
+  parents = c.requires.links.parents;
+}
 
 pub returns-then-axis_fits : goal.returns-then-axis_fits
 returns-then-axis_fits c = λ e.

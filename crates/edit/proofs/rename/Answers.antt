@@ -25,13 +25,8 @@ returns-in_default-found c =
 
 pub rename_at-requires : goal.rename_at-requires
 rename_at-requires c =
-    rw c.row_there-row.ensures (known _ _ c.check-checked.ensures c.in_default.is
-    c.locate-found.ensures c.in-At.is).known
+    known _ _ c.check-checked.ensures c.in_default.is c.locate-found.ensures c.in-At.is
 
 pub returns : goal.returns
 returns c =
-    rw (
-      rename_found _ _ c.check-checked.ensures c.in_default.is c.locate-found.ensures
-          c.in-At.is _,
-      ← c.row_there-row.ensures,
-    ) c.rename_at.ensures
+    rw (rename_found _ _ c.check-checked.ensures c.in_default.is c.locate-found.ensures c.in-At.is _) c.rename_at.ensures

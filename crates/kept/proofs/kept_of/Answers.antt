@@ -17,9 +17,9 @@ returns-then-rows-lt2 c = kept_few c.requires.kept_in _ c.if-rows-lt2.true
 
 pub kept_trees-requires : goal.kept_trees-requires
 kept_trees-requires c = record {
-      kept_in = (c.requires.kept_in, omega arith);
-      roots = c.requires.roots (side_range _ (omega arith) (omega arith));
-    }
+  kept_in = (c.requires.kept_in, omega arith);
+  roots = c.requires.roots (side_range _ (omega arith) (omega arith));
+}
 
 pub returns-in-3 : goal.returns-in-3
 returns-in-3 c = c.kept_outermost.ensures ∙ kept_descend _ _ (omega arith) (omega arith)
@@ -33,8 +33,8 @@ returns-in-8 c =
 
 pub returns-in_default : goal.returns-in_default
 returns-in_default c = elim c.in_default.branch [
-      in_default-via-then-axis-lt3 w ↦ c.kept_distinct.ensures ∙ kept_plain c.args.level.now c.args.rows.now {axis = c.args.axis} (inl (omega arith))
-      | in_default-via-else-axis-lt3+else-axis-lt5+then-axis-lt6 w ↦ c.kept_distinct.ensures ∙ kept_plain c.args.level.now c.args.rows.now {axis = c.args.axis} (inr (inl (omega arith)))
-      | in_default-via-else-axis-lt3+else-axis-lt5+else-axis-lt6+else-axis-lt8+else-axis-lt10 w ↦
+  | in_default-via-then-axis-lt3 w ↦ c.kept_distinct.ensures ∙ kept_plain c.args.level.now c.args.rows.now {axis = c.args.axis} (inl (omega arith))
+  | in_default-via-else-axis-lt3+else-axis-lt5+then-axis-lt6 w ↦ c.kept_distinct.ensures ∙ kept_plain c.args.level.now c.args.rows.now {axis = c.args.axis} (inr (inl (omega arith)))
+  | in_default-via-else-axis-lt3+else-axis-lt5+else-axis-lt6+else-axis-lt8+else-axis-lt10 w ↦
       c.kept_distinct.ensures ∙ kept_plain c.args.level.now c.args.rows.now {axis = c.args.axis} (inr (inr (omega arith)))
-    ]
+]

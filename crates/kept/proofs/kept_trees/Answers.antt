@@ -21,7 +21,7 @@ loop-i-init c =
 pub loop-i-preserved : goal.loop-i-preserved
 loop-i-preserved c =
     elim c.if-top-before.branch [
-      then-top-before w ↦ rw w.kept-is (trees_count c.requires.kept_in.0 c.requires.roots c.loop-i.invariant c.loop-i-test.true w.if-top-before.true)
+      | then-top-before w ↦ rw w.kept-is (trees_count c.requires.kept_in.0 c.requires.roots c.loop-i.invariant c.loop-i-test.true w.if-top-before.true)
       | else-top-before w ↦ rw w.kept-is (trees_skip c.requires.kept_in.0 c.requires.roots c.loop-i.invariant c.loop-i-test.true w.if-top-before.false)
     ]
 

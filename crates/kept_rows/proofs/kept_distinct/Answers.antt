@@ -14,7 +14,7 @@ loop-i-init c = pass_start 1 c.requires.0 c.requires.1
 pub loop-i-preserved : goal.loop-i-preserved
 loop-i-preserved c =
     elim c.if-rows-i.branch [
-      then-rows-i w ↦ rw w.kept-is (own_count c.requires.0 c.loop-i.invariant c.loop-i-test.true w.if-rows-i.true)
+      | then-rows-i w ↦ rw w.kept-is (own_count c.requires.0 c.loop-i.invariant c.loop-i-test.true w.if-rows-i.true)
       | else-rows-i w ↦ rw w.kept-is (own_skip c.requires.0 c.loop-i.invariant c.loop-i-test.true w.if-rows-i.false)
     ]
 

@@ -27,7 +27,7 @@ overflow_add-c c = omega (arith, inside (goal.at.overflow_add-c c).In-loop-i)
 pub loop-i-preserved : goal.loop-i-preserved
 loop-i-preserved c =
     elim c.if-c-size.branch [
-      then-c-size w ↦ rw w.kept-is (inner_count c.requires.0 c.loop-i.invariant c.loop-i-test.true w.if-c-size.true)
+      | then-c-size w ↦ rw w.kept-is (inner_count c.requires.0 c.loop-i.invariant c.loop-i-test.true w.if-c-size.true)
       | else-c-size w ↦ rw w.kept-is (inner_skip c.requires.0 c.loop-i.invariant c.loop-i-test.true w.if-c-size.false)
     ]
 

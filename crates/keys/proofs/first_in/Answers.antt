@@ -25,6 +25,6 @@ returns-then-not-key_ok c =
 pub returns : goal.returns
 unfolding first_key
 returns c = record {
-      value = least_end _ _ _ c.loop-i.invariant.0 c.loop-i-test.false c.loop-i.invariant.4;
-      chained_2 = c.loop-i.invariant.3;
-    }
+  value = least_end _ _ _ c.loop-i.invariant.0 c.loop-i-test.false c.loop-i.invariant.4;
+  chained_2 = c.loop-i.invariant.3;
+}

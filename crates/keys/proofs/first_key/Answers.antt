@@ -7,42 +7,42 @@ use Rattle.keys.proofs.first_key.Goals as goal
 
 pub first_in-requires : goal.first_in-requires
 first_in-requires c = record {
-      n_in_bounds = search rules;
-      chain_room = (cleared 26 64 16 c.args.n c.args.key.now (lit≤ tt) (lit≤ tt) (omega arith) (omega arith)).0;
-      chained = (cleared 26 64 16 c.args.n c.args.key.now (lit≤ tt) (lit≤ tt) (omega arith) (omega arith)).1;
-    }
+  n_in_bounds = search rules;
+  chain_room = (cleared 26 64 16 c.args.n c.args.key.now (lit≤ tt) (lit≤ tt) (omega arith) (omega arith)).0;
+  chained = (cleared 26 64 16 c.args.n c.args.key.now (lit≤ tt) (lit≤ tt) (omega arith) (omega arith)).1;
+}
 
 pub first_in-requires-then-n-le32 : goal.first_in-requires-then-n-le32
 first_in-requires-then-n-le32 c = record {
-      n_in_bounds = search rules;
-      chain_room = (cleared 25 128 32 c.args.n c.args.key.now (lit≤ tt) (lit≤ tt) (omega arith) (omega arith)).0;
-      chained = (cleared 25 128 32 c.args.n c.args.key.now (lit≤ tt) (lit≤ tt) (omega arith) (omega arith)).1;
-    }
+  n_in_bounds = search rules;
+  chain_room = (cleared 25 128 32 c.args.n c.args.key.now (lit≤ tt) (lit≤ tt) (omega arith) (omega arith)).0;
+  chained = (cleared 25 128 32 c.args.n c.args.key.now (lit≤ tt) (lit≤ tt) (omega arith) (omega arith)).1;
+}
 
 pub first_in-requires-then-n-le64 : goal.first_in-requires-then-n-le64
 first_in-requires-then-n-le64 c = record {
-      n_in_bounds = search rules;
-      chain_room = (cleared 24 256 64 c.args.n c.args.key.now (lit≤ tt) (lit≤ tt) (omega arith) (omega arith)).0;
-      chained = (cleared 24 256 64 c.args.n c.args.key.now (lit≤ tt) (lit≤ tt) (omega arith) (omega arith)).1;
-    }
+  n_in_bounds = search rules;
+  chain_room = (cleared 24 256 64 c.args.n c.args.key.now (lit≤ tt) (lit≤ tt) (omega arith) (omega arith)).0;
+  chained = (cleared 24 256 64 c.args.n c.args.key.now (lit≤ tt) (lit≤ tt) (omega arith) (omega arith)).1;
+}
 
 pub first_in-requires-then-n-le256 : goal.first_in-requires-then-n-le256
 first_in-requires-then-n-le256 c = record {
-      n_in_bounds = search rules;
-      chain_room = (cleared 22 1024 256 c.args.n c.args.key.now (lit≤ tt) (lit≤ tt) (omega arith) (omega arith)).0;
-      chained = (cleared 22 1024 256 c.args.n c.args.key.now (lit≤ tt) (lit≤ tt) (omega arith) (omega arith)).1;
-    }
+  n_in_bounds = search rules;
+  chain_room = (cleared 22 1024 256 c.args.n c.args.key.now (lit≤ tt) (lit≤ tt) (omega arith) (omega arith)).0;
+  chained = (cleared 22 1024 256 c.args.n c.args.key.now (lit≤ tt) (lit≤ tt) (omega arith) (omega arith)).1;
+}
 
 pub first_in-requires-then-n-le1024 : goal.first_in-requires-then-n-le1024
 first_in-requires-then-n-le1024 c = record {
-      n_in_bounds = search rules;
-      chain_room = (cleared 20 4096 1024 c.args.n c.args.key.now (lit≤ tt) (lit≤ tt) (omega arith) (omega arith)).0;
-      chained = (cleared 20 4096 1024 c.args.n c.args.key.now (lit≤ tt) (lit≤ tt) (omega arith) (omega arith)).1;
-    }
+  n_in_bounds = search rules;
+  chain_room = (cleared 20 4096 1024 c.args.n c.args.key.now (lit≤ tt) (lit≤ tt) (omega arith) (omega arith)).0;
+  chained = (cleared 20 4096 1024 c.args.n c.args.key.now (lit≤ tt) (lit≤ tt) (omega arith) (omega arith)).1;
+}
 
 pub first_in-requires-2 : goal.first_in-requires-2
 first_in-requires-2 c = record {
-      n_in_bounds = search rules;
-      chain_room = (cleared 18 16384 4096 c.args.n c.args.key.now (lit≤ tt) (lit≤ tt) (omega arith) (omega arith)).0;
-      chained = (cleared 18 16384 4096 c.args.n c.args.key.now (lit≤ tt) (lit≤ tt) (omega arith) (omega arith)).1;
-    }
+  n_in_bounds = search rules;
+  chain_room = (cleared 18 16384 4096 c.args.n c.args.key.now (lit≤ tt) (lit≤ tt) (omega arith) (omega arith)).0;
+  chained = (cleared 18 16384 4096 c.args.n c.args.key.now (lit≤ tt) (lit≤ tt) (omega arith) (omega arith)).1;
+}

@@ -28,7 +28,7 @@ pub loop-r-preserved : goal.loop-r-preserved
 loop-r-preserved c =
     let kept = c.loop-r.invariant in
     elim c.if-key-j.branch [
-      then-key-j w ↦ rw w.row-is (
+      | then-key-j w ↦ rw w.row-is (
         omega (arith, kept.0, kept.2.within),
         λ _. w.if-key-j.true,
         walk_hit _ _ _ _ _ _ _ _ c.requires.chained kept.0 kept.2 c.loop-r-test.true,

@@ -46,12 +46,11 @@ loop-i-smaller c =
     )
 
 pub loop-i-preserved : goal.loop-i-preserved
-loop-i-preserved c =
-    (
-      group_turn c.requires.role_in c.loop-i.invariant.0 c.loop-i-test.true
-          c.later_end-end.ensures c.past_tree-j.ensures c.group_siblings-next.ensures.wrote,
-      c.group_siblings-next.ensures.blank,
-    )
+loop-i-preserved c = (
+  group_turn c.requires.role_in c.loop-i.invariant.0 c.loop-i-test.true
+      c.later_end-end.ensures c.past_tree-j.ensures c.group_siblings-next.ensures.wrote,
+  c.group_siblings-next.ensures.blank,
+)
 
 pub returns : goal.returns
 returns c =

@@ -21,10 +21,10 @@ slice_bounds-counted_role-end c =
 
 pub counted_role-n-requires : goal.counted_role-n-requires
 counted_role-n-requires c = record {
-      upward_value = c.is_upward-upward.ensures;
-      role_ask = rw c.want_of-want.ensures
-          (counted_asks _ _ _ _ _ c.requires _ c.loop-i.invariant c.run_end-j.ensures);
-    }
+  upward_value = c.is_upward-upward.ensures;
+  role_ask = rw c.want_of-want.ensures
+      (counted_asks _ _ _ _ _ c.requires _ c.loop-i.invariant c.run_end-j.ensures);
+}
 
 pub overflow_add-total : goal.overflow_add-total
 overflow_add-total c =

@@ -15,11 +15,10 @@ use borrow.Author.Rules.{rules}
 use Rattle.lines.proofs.write_all.Goals as goal
 
 pub loop-i-init : goal.loop-i-init
-loop-i-init c =
-    (
-      written_none _ _ _ _ _ _ _ c.requires.step_ready c.requires.has_room (replicate {A = ℕ} 64 0) blank_zeros,
-      keeping_none _ _ _ _ _ _ (sound_shape _ c.requires.step_ready.call.sound) (pairs_fit _ _ _ _ _ c.requires.step_ready),
-    )
+loop-i-init c = (
+  written_none _ _ _ _ _ _ _ c.requires.step_ready c.requires.has_room (replicate {A = ℕ} 64 0) blank_zeros,
+  keeping_none _ _ _ _ _ _ (sound_shape _ c.requires.step_ready.call.sound) (pairs_fit _ _ _ _ _ c.requires.step_ready),
+)
 
 pub slice_bounds-kept_of-end : goal.slice_bounds-kept_of-end
 slice_bounds-kept_of-end c =
@@ -27,10 +26,10 @@ slice_bounds-kept_of-end c =
 
 pub kept_of-kept-requires : goal.kept_of-kept-requires
 kept_of-kept-requires c = record {
-      kept_in = keeping_asks c.args.ask.axis _ _ _ _ _ (sound_shape _ c.requires.step_ready.call.sound)
-          (pairs_fit _ _ _ _ _ c.requires.step_ready) _ _ c.run_end-j.ensures;
-      roots = c.requires.step_ready.links.roots;
-    }
+  kept_in = keeping_asks c.args.ask.axis _ _ _ _ _ (sound_shape _ c.requires.step_ready.call.sound)
+      (pairs_fit _ _ _ _ _ c.requires.step_ready) _ _ c.run_end-j.ensures;
+  roots = c.requires.step_ready.links.roots;
+}
 
 pub overflow_add-kept : goal.overflow_add-kept
 overflow_add-kept c =
@@ -65,10 +64,10 @@ slice_bounds-written_role-start-in-loop-i c =
 
 pub written_role-n-requires : goal.written_role-n-requires
 written_role-n-requires c = record {
-      upward_value = c.is_upward-upward.ensures;
-      role_ask = rw c.want_of-want.ensures
-          (written_asks _ _ _ _ _ _ _ c.requires.step_ready c.requires.has_room c.loop-i.invariant.0 c.run_end-j.ensures);
-    }
+  upward_value = c.is_upward-upward.ensures;
+  role_ask = rw c.want_of-want.ensures
+      (written_asks _ _ _ _ _ _ _ c.requires.step_ready c.requires.has_room c.loop-i.invariant.0 c.run_end-j.ensures);
+}
 
 pub offset_bounds-out_role-m : goal.offset_bounds-out_role-m
 offset_bounds-out_role-m c =
@@ -116,7 +115,7 @@ loop-i-preserved c =
 
 pub returns : goal.returns
 returns c = record {
-      lists = written_done _ _ _ _ _ _ _ c.requires.step_ready c.requires.has_room c.loop-i.invariant.0 c.loop-i-test.false;
-      kept_value = keeping_done _ _ _ _ _ _ (sound_shape _ c.requires.step_ready.call.sound) (pairs_fit _ _ _ _ _ c.requires.step_ready)
-          c.loop-i.invariant.1 c.loop-i-test.false;
-    }
+  lists = written_done _ _ _ _ _ _ _ c.requires.step_ready c.requires.has_room c.loop-i.invariant.0 c.loop-i-test.false;
+  kept_value = keeping_done _ _ _ _ _ _ (sound_shape _ c.requires.step_ready.call.sound) (pairs_fit _ _ _ _ _ c.requires.step_ready)
+      c.loop-i.invariant.1 c.loop-i-test.false;
+}

@@ -15,11 +15,11 @@ lone_rows-requires c =
 
 pub later_siblings-requires : goal.later_siblings-requires
 later_siblings-requires c = record {
-      role_in = (climb_asks c.requires.role_ask c.if-axis-eq10.true
-    (siblings_climb _ (omega arith) (omega arith))).0;
-      parents = (climb_asks c.requires.role_ask c.if-axis-eq10.true
-    (siblings_climb _ (omega arith) (omega arith))).1;
-    }
+  role_in = (climb_asks c.requires.role_ask c.if-axis-eq10.true
+      (siblings_climb _ (omega arith) (omega arith))).0;
+  parents = (climb_asks c.requires.role_ask c.if-axis-eq10.true
+      (siblings_climb _ (omega arith) (omega arith))).1;
+}
 
 pub rising_rows-requires : goal.rising_rows-requires
 rising_rows-requires c =

@@ -39,6 +39,6 @@ loop-i-preserved c =
     let s = c in
     let l = c.loop-i-test.true in
     elim c.if-kind-i.branch [
-      then-kind-i w ↦ scan_yes s.requires s.loop-i.invariant l (eq-eqb _ _ w.if-kind-i.true) w.out-is w.next-is
+      | then-kind-i w ↦ scan_yes s.requires s.loop-i.invariant l (eq-eqb _ _ w.if-kind-i.true) w.out-is w.next-is
       | else-kind-i w ↦ scan_no s.requires s.loop-i.invariant l (ne_eqb _ _ w.if-kind-i.false) w.out-is w.next-is
     ]

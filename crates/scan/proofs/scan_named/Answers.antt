@@ -39,6 +39,6 @@ loop-i-preserved c =
     let l = c.loop-i-test.true in
     let e = c.fits_row.ensures in
     elim c.if-fits_row.branch [
-      then-fits_row w ↦ scan_yes s.requires.1 s.loop-i.invariant l (sym e ∙ w.if-fits_row.true) w.out-is w.next-is
+      | then-fits_row w ↦ scan_yes s.requires.1 s.loop-i.invariant l (sym e ∙ w.if-fits_row.true) w.out-is w.next-is
       | else-fits_row w ↦ scan_no s.requires.1 s.loop-i.invariant l (sym e ∙ w.if-fits_row.false) w.out-is w.next-is
     ]

@@ -9,9 +9,9 @@ use Rattle.step.proofs.step_known.Goals as goal
 
 pub up_for-requires : goal.up_for-requires
 up_for-requires c = record {
-      shape = sound_shape _ c.requires.sound;
-      zeros = up_zeros;
-    }
+  shape = sound_shape _ c.requires.sound;
+  zeros = up_zeros;
+}
 
 pub write_all-tally-requires : goal.write_all-tally-requires
 unfolding room_check

@@ -10,11 +10,10 @@ use borrow.Author.Rules.{rules}
 use Rattle.table.proofs.locate.Goals as goal
 
 pub where_is-requires : goal.where_is-requires
-where_is-requires c =
-    (
-      omega (arith, c.requires.in_use.in_level),
-      λ h. omega (arith, (has_parent (sound_shape _ c.requires) _ c.if-row-count.true h).1),
-    )
+where_is-requires c = (
+  omega (arith, c.requires.in_use.in_level),
+  λ h. omega (arith, (has_parent (sound_shape _ c.requires) _ c.if-row-count.true h).1),
+)
 
 pub returns-then-row-count : goal.returns-then-row-count
 unfolding located

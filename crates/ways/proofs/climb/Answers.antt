@@ -31,10 +31,10 @@ loop-link-smaller c =
 pub loop-link-preserved : goal.loop-link-preserved
 loop-link-preserved c =
     let m = c.loop-link-test.true in elim c.if-fits_row.branch [
-      then-fits_row w ↦ rw (w.out-is, w.next-is) (climb_yes c.requires c.loop-link.invariant (c.loop-link.link - 1) (omega arith) m
-    (sym c.fits_row.ensures ∙ w.if-fits_row.true))
+      | then-fits_row w ↦ rw (w.out-is, w.next-is) (climb_yes c.requires c.loop-link.invariant (c.loop-link.link - 1) (omega arith) m
+          (sym c.fits_row.ensures ∙ w.if-fits_row.true))
       | else-fits_row w ↦ rw (w.out-is, w.next-is) (climb_no c.requires c.loop-link.invariant (c.loop-link.link - 1) (omega arith) m
-    (sym c.fits_row.ensures ∙ w.if-fits_row.false))
+          (sym c.fits_row.ensures ∙ w.if-fits_row.false))
     ]
 
 pub returns : goal.returns

@@ -28,10 +28,10 @@ past : (c : Joined-fits_row) (r : ℕ) → (r ≡ c.loop-w.w + at c.args.size.no
     c.args.row c.args.end c.args.out.now c.args.written c.if-fits_row.out r c.if-fits_row.next)
 past c r e =
     let l = c.loop-w-test.true in elim c.if-fits_row.branch [
-      then-fits_row w ↦ rw (w.out-is, w.next-is)
-    (walk_yes c.requires.1 c.loop-w.invariant l (sym c.fits_row.ensures ∙ w.if-fits_row.true) e)
+      | then-fits_row w ↦ rw (w.out-is, w.next-is)
+          (walk_yes c.requires.1 c.loop-w.invariant l (sym c.fits_row.ensures ∙ w.if-fits_row.true) e)
       | else-fits_row w ↦ rw (w.out-is, w.next-is)
-    (walk_no c.requires.1 c.loop-w.invariant l (sym c.fits_row.ensures ∙ w.if-fits_row.false) e)
+          (walk_no c.requires.1 c.loop-w.invariant l (sym c.fits_row.ensures ∙ w.if-fits_row.false) e)
     ]
 
 pub loop-w-init : goal.loop-w-init

@@ -20,15 +20,15 @@ overflow_add-by c =
 
 pub lower-requires : goal.lower-requires
 lower-requires c = record {
-      stands = found_stands c.requires;
-      by_index = child_held (lent (goal.at.lower-requires c).Start) c.args.child c.requires;
-    }
+  stands = found_stands c.requires;
+  by_index = child_held (lent (goal.at.lower-requires c).Start) c.args.child c.requires;
+}
 
 pub close_rows-requires : goal.close_rows-requires
 close_rows-requires c = record {
-      in_use = low_in_use (lent (goal.at.close_rows-requires c).Start) c.args.child.row c.lower.ensures c.requires.known.sound.in_use;
-      by_bound = rows_fit (lent (goal.at.close_rows-requires c).Start) c.args.child.row c.requires.known;
-    }
+  in_use = low_in_use (lent (goal.at.close_rows-requires c).Start) c.args.child.row c.lower.ensures c.requires.known.sound.in_use;
+  by_bound = rows_fit (lent (goal.at.close_rows-requires c).Start) c.args.child.row c.requires.known;
+}
 
 pub returns : goal.returns
 returns c =

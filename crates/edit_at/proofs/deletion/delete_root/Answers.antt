@@ -22,9 +22,9 @@ returns-then-by-count c =
 
 pub close_rows-requires : goal.close_rows-requires
 close_rows-requires c = record {
-      in_use = c.requires.known.sound.in_use;
-      by_bound = rows_fit (lent (goal.at.close_rows-requires c).Start) c.args.row c.requires.known;
-    }
+  in_use = c.requires.known.sound.in_use;
+  by_bound = rows_fit (lent (goal.at.close_rows-requires c).Start) c.args.row c.requires.known;
+}
 
 pub returns : goal.returns
 returns c =

@@ -55,7 +55,7 @@ overflow_add-at c =
 pub loop-rest-preserved : goal.loop-rest-preserved
 loop-rest-preserved c =
     let room = c.requires.room in let some = c.loop-rest-test.true in elim c.if-fits_row.branch [
-      then-fits_row w ↦ rw (w.at-is, w.out-is) (word_yes _ _ _ _ c.loop-rest.invariant room some c.fits_row.ensures w.if-fits_row.true)
+      | then-fits_row w ↦ rw (w.at-is, w.out-is) (word_yes _ _ _ _ c.loop-rest.invariant room some c.fits_row.ensures w.if-fits_row.true)
       | else-fits_row w ↦ rw (w.at-is, w.out-is) (word_no _ _ _ _ c.loop-rest.invariant room some c.fits_row.ensures w.if-fits_row.false)
     ]
 

@@ -72,7 +72,7 @@ loop-i-preserved c = (
 
 pub returns : goal.returns
 returns c = record {
-      count_value = λ e. followed_all _ c.requires.in_use _ _
+  count_value = λ e. followed_all _ c.requires.in_use _ _
       c.loop-i.i e c.loop-i.invariant.4 c.loop-i.invariant.5;
-      chained_2 = λ e. rw (← e) c.loop-i.invariant.3;
-    }
+  chained_2 = λ e. rw (← e) c.loop-i.invariant.3;
+}

@@ -18,7 +18,7 @@ first c =
     let a = c.args in
     let half : Bool = eqb (at a.kind.now a.w) a.want.kind in
     elim c.if-want-eq5.branch [
-      then-want-eq5 w ↦ w.value-is ∙ eq-eqb _ _ w.if-want-eq5.true ∙ sym (ap (λ (b : Bool). b || half) (eq-eqb _ _ w.if-want-eq5.true))
+      | then-want-eq5 w ↦ w.value-is ∙ eq-eqb _ _ w.if-want-eq5.true ∙ sym (ap (λ (b : Bool). b || half) (eq-eqb _ _ w.if-want-eq5.true))
       | else-want-eq5 w ↦ w.value-is ∙ sym (ap (λ (b : Bool). b || half) (ne_eqb _ _ w.if-want-eq5.false))
     ]
 

@@ -1,4 +1,4 @@
--- `edit_at::renaming::rename_at` meets its contract. Assumes nothing.
+-- `edit_at::renaming::rename_row` meets its contract. Assumes nothing.
 use mathlib.Core.Path.{refl, sym, ◌∙◌}
 use Rattle.tree.specs.Table.{Table, table_of}
 use Rattle.tree.specs.Edit.{rename_done, renamed}
@@ -7,8 +7,8 @@ use Rattle.tree.proofs.SoundLaws.{given_not}
 use Rattle.edit_at.proofs.OutcomeLaws.{leaves, own_refused, own_passed}
 use Rattle.tree.proofs.FindLaws.{given_refused}
 use borrow.Author.Rules.{rules}
-use Rattle.edit_at.proofs.renaming.rename_at.Goals as goal
-use Rattle.edit_at.proofs.renaming.rename_at.Goals.{Start}
+use Rattle.edit_at.proofs.renaming.rename_row.Goals as goal
+use Rattle.edit_at.proofs.renaming.rename_row.Goals.{Start}
 
 -- the table that was lent
 abbrev lent : Start → Table
