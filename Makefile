@@ -10,8 +10,7 @@ SEED ?= 1
 CALLS ?= 1000000
 
 reach:
-	rt check reach
-	tools/run reach
+	rt run reach
 
 library:
 	tools/staticlib

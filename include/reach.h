@@ -50,8 +50,8 @@ extern "C" {
 /* The library's numbers have 64 bits; where size_t has another number of them, this array has no length. */
 typedef char reach_size_t_has_64_bits[sizeof(size_t) == 8 ? 1 : -1];
 
-/* The version of this header: 0.6.0, as the major number times 10,000, the minor times 100 and the third together. */
-#define REACH_VERSION 600
+/* The version of this header: 0.5.0, as the major number times 10,000, the minor times 100 and the third together. */
+#define REACH_VERSION 500
 
 /* The version of the library that is linked. It is REACH_VERSION unless header and library come from two releases. */
 size_t reach_version(void);

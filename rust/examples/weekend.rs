@@ -1,6 +1,7 @@
 //! A weekend's changes in one call: what stands behind a refused one is sent again.
 
 use reach::codes::{ITEM_DELETE, ITEM_RENAME, KIND_COMMENT as C, KIND_ELEMENT as E};
+use reach::codes::{REFUSED_BAD_COUNT, REFUSED_BAD_LIST, REFUSED_UNSOUND_ROW};
 use reach::{Items, Refusal, TableMut};
 
 fn main() -> Result<(), Refusal> {
@@ -23,10 +24,11 @@ fn main() -> Result<(), Refusal> {
     println!("sent 5, done {}, count {}", batched.done, batched.count);
     if let Some(refusal) = batched.refusal {
         // On refusals 1, 2 and 18 nothing was done: the table or the list is to be mended first.
-        if let Refusal::BadCount | Refusal::UnsoundRow { .. } | Refusal::BadList = refusal {
+        let number = refusal.number();
+        if let REFUSED_BAD_COUNT | REFUSED_UNSOUND_ROW | REFUSED_BAD_LIST = number {
             return Err(refusal);
         }
-        let (number, key) = (refusal.number(), friday.key[batched.done]);
+        let key = friday.key[batched.done];
         println!("the change of key {key} got refusal {number}");
 
         // It is struck out, and what stands behind it was not tried.

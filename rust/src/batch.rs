@@ -85,7 +85,8 @@ impl TableMut<'_> {
     ///
     /// # Refusals
     ///
-    /// In this order: [`Refusal::BadCount`], [`Refusal::UnsoundRow`] and [`Refusal::BadList`], on
+    /// In this order: [`Refusal::BadCount`], [`Refusal::UnsoundRow`] and
+    /// [`codes::REFUSED_BAD_LIST`](crate::codes::REFUSED_BAD_LIST), an [`Refusal::Unlisted`], on
     /// which nothing is done; then those of the items: [`Refusal::UnknownKey`],
     /// [`Refusal::DeletesRoot`] and [`Refusal::BadRename`], whose row is that of the moment, after
     /// the items before it.

@@ -32,10 +32,9 @@ macro_rules! numbers {
 }
 
 numbers! {
-    /// The version of this wrapper: 0.6.0, as the major number times 10,000, the minor times 100
-    /// and the third together. [`boundary::version`](crate::boundary::version) answers the
-    /// library's.
-    VERSION = 600,
+    /// The version of this wrapper: 0.5.0, as the major number times 10,000, the minor times 100 and
+    /// the third together. [`boundary::version`](crate::boundary::version) answers the library's.
+    VERSION = 500,
 
     /// The most rows that a table can have in use.
     MOST_ROWS = 4_096,
@@ -136,7 +135,7 @@ numbers! {
     REFUSED_BAD_RENAME = 16,
     /// [`Refusal::BadMove`](crate::Refusal::BadMove).
     REFUSED_BAD_MOVE = 17,
-    /// [`Refusal::BadList`](crate::Refusal::BadList).
+    /// The list of a batch is bad: [`Refusal::Unlisted`](crate::Refusal::Unlisted) with this number.
     REFUSED_BAD_LIST = 18,
 }
 

@@ -4,11 +4,10 @@ use crate::codes;
 use std::error::Error;
 use std::fmt;
 
-/// Why a call was refused: one of eighteen reasons, or one that this wrapper has no name for. Where
-/// several apply, the one of the lowest number is given, but number 17 before number 8, and number
-/// 18 before what an item of a batch gets; and every column that was lent is unchanged, but for
-/// what the items before a refused one did. Later versions may have further reasons, so a `match`
-/// needs an arm for the rest.
+/// Why a call was refused: one of seventeen reasons, or one that this wrapper has no name for. Where
+/// several apply, the one of the lowest number is given, but number 17 before number 8; and every
+/// column that was lent is unchanged. Later versions may have further reasons, so a `match` needs an
+/// arm for the rest.
 ///
 /// ```
 /// use reach::Refusal;
@@ -77,9 +76,6 @@ pub enum Refusal {
     /// 17: no edit answers these numbers: the first moved row is 0 or above the old count, or falls
     /// below 0 once the move is added, or the new count would lie outside 1 to 4,096.
     BadMove,
-    /// 18: the three columns of items differ in length, or are longer than 256, or have a code
-    /// other than 1 and 2, wherever it stands.
-    BadList,
     /// A number that this wrapper has no name for, as a newer library may give.
     Unlisted {
         /// The refusal's number.
@@ -110,7 +106,6 @@ impl Refusal {
             codes::REFUSED_DELETES_ROOT => Refusal::DeletesRoot,
             codes::REFUSED_BAD_RENAME => Refusal::BadRename { row: place },
             codes::REFUSED_BAD_MOVE => Refusal::BadMove,
-            codes::REFUSED_BAD_LIST => Refusal::BadList,
             _ => Refusal::Unlisted { number, place },
         }
     }
@@ -135,7 +130,6 @@ impl Refusal {
             Refusal::DeletesRoot => codes::REFUSED_DELETES_ROOT,
             Refusal::BadRename { .. } => codes::REFUSED_BAD_RENAME,
             Refusal::BadMove => codes::REFUSED_BAD_MOVE,
-            Refusal::BadList => codes::REFUSED_BAD_LIST,
             Refusal::Unlisted { number, .. } => number,
         }
     }
@@ -214,10 +208,6 @@ impl fmt::Display for Refusal {
                  1 to the old count, still at least 0 once the move is added, and the new count is \
                  1 to 4,096",
             ),
-            Refusal::BadList => out.write_str(
-                "the list of changes is bad, and none was made: its code, key and name columns must be \
-                 equally long, at most 256 items, and each code 1 (delete) or 2 (rename)",
-            ),
             Refusal::Unlisted { number, place } => write!(
                 out,
                 "the call was refused with number {number}, place {place}, which this wrapper has no \
@@ -236,7 +226,7 @@ mod tests {
 
     #[test]
     fn numbers_and_places_come_back() {
-        for number in 1..=18 {
+        for number in 1..=17 {
             let refusal = Refusal::from_number(number, 3);
             assert_eq!(refusal.number(), number);
             let has_place = [2, 4, 5, 8, 11, 13, 16].contains(&number);
@@ -248,13 +238,13 @@ mod tests {
 
     #[test]
     fn a_number_without_a_name_is_a_refusal_too() {
-        for number in [0, 19, usize::MAX] {
+        for number in [0, 18, usize::MAX] {
             let refusal = Refusal::from_number(number, 3);
             assert_eq!(refusal, Refusal::Unlisted { number, place: 3 });
             assert_eq!((refusal.number(), refusal.place()), (number, 3));
             assert!(refusal.to_string().contains(&format!("number {number}, place 3")));
         }
-        let newer = Answer { refusal: 19, place: 3, ..Answer::default() };
-        assert_eq!(newer.accepted(), Err(Refusal::Unlisted { number: 19, place: 3 }));
+        let newer = Answer { refusal: 18, place: 3, ..Answer::default() };
+        assert_eq!(newer.accepted(), Err(Refusal::Unlisted { number: 18, place: 3 }));
     }
 }

@@ -79,7 +79,7 @@ fn a_bad_list_changes_nothing() {
         assert_eq!(farm.columns, Farm::new().columns);
         batched.refusal
     };
-    let bad = Some(Refusal::BadList);
+    let bad = Some(Refusal::Unlisted { number: 18, place: 0 });
     assert_eq!(refused(Items { code: &[1, 2, 1], ..WEEKEND }), bad);
     assert_eq!(refused(Items { key: &[21, 30, 40], ..WEEKEND }), bad);
     assert_eq!(refused(Items { name: &[0, 5, 9, 6, 6], ..WEEKEND }), bad);

@@ -16,7 +16,7 @@ use Prim.Native.Nat.{ℕ, suc, ◌+◌, ◌<◌, ◌≤◌}
 use native.Mathlib.Omega.{arith}
 use native.Mathlib.Decide.{ℕ_discrete}
 use lib.ListN.{length, take, drop}
-use Rattle.tree.specs.Table.{Table, at}
+use Rattle.tree.specs.Table.{Table}
 use Rattle.tree.specs.Rules.{Sound}
 use Rattle.tree.specs.RefusalRules.{GoodList}
 use Rattle.tree.specs.Batch.{items_of, item_outcome, BatchOutcome, ended, one_by_one}

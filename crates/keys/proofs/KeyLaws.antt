@@ -4,7 +4,7 @@
 -- Assumes nothing.
 use mathlib.Core.Path.{◌≡◌, refl, sym, ap, subst, ◌∙◌}
 use mathlib.Core.Logic.{◌⊎◌, inl, inr, ⊎_elim}
-use mathlib.Core.Bool.{Bool, true, false, not}
+use mathlib.Core.Bool.{Bool, true, false}
 use mathlib.Core.List.{List}
 use Prim.Native.Nat.{ℕ, suc, ◌+◌, ◌-◌, ◌^◌, ◌<◌, ◌≤◌}
 use native.Mathlib.Nat.{le_refl, le_of_suc-le-suc, eq-or-lt_of_le, not-suc-le-zero, lt_of_lt_of_le, mod-lt}
@@ -15,7 +15,7 @@ use lib.Dec.{eqb, leb, ltb, lit<}
 use lib.ListN.{length, get_or, set, replicate, get_or-replicate, length-replicate}
 use lib.Pow.{shr_lt}
 use lib.Seq.{get_or-set_same, get_or-set_other}
-use Rattle.tree.specs.Search.{least, nearest}
+use Rattle.tree.specs.Search.{nearest}
 use Rattle.tree.specs.Table.{most_rows, at}
 use Rattle.tree.specs.Sound.{row_of, key_ok}
 use Rattle.tree.proofs.SearchLaws.{least_none, least_at, least_le, nearest_le, nearest_skip, nearest_in}

@@ -19,7 +19,7 @@ use Rattle.tree.specs.Rules.{InUse, Sound}
 use Rattle.tree.proofs.SearchLaws.{least_below, least_passes}
 use Rattle.tree.proofs.TreeLaws.{size_fits}
 use Rattle.tree.proofs.ColumnLaws.{opened_is, closed_is}
-use Rattle.tree.proofs.Nodes.{Node, rows, node_at, nodes_of, run, rest, sizes, lift, named, ins, del, ren, sub}
+use Rattle.tree.proofs.Nodes.{Node, rows, node_at, nodes_of, run, rest, lift, named, ins, del, ren, sub}
 use Rattle.tree.proofs.Nodes.{edited, Row, here, there}
 use Rattle.tree.proofs.NodeLaws.{edited_here, edited_there, run_rest, take_run, drop_run, length_rows, rows_at}
 use Rattle.tree.proofs.NodeSizes.{nodes_at}

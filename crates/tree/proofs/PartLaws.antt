@@ -2,7 +2,7 @@
 -- root's size says and one; their levels and sizes make a tree again, `part_shape`; it is sound, `part_sound`. Parents,
 -- ancestors and axes in it are those of the table: `part_parent`, `part_ancestor`, `part_axis`. Assumes nothing.
 use mathlib.Core.Path.{◌≡◌, refl, sym, ap, ap₂, ◌∙◌}
-use mathlib.Core.Logic.{◌⊎◌, ⊎_elim}
+use mathlib.Core.Logic.{⊎_elim}
 use mathlib.Core.Bool.{Bool, true, ◌&&◌}
 use mathlib.Core.List.{List}
 use Prim.Native.Nat.{ℕ, zero, suc, ◌+◌, ◌-◌, ◌<◌, ◌≤◌}
@@ -16,7 +16,7 @@ use Rattle.tree.specs.Search.{least}
 use Rattle.tree.specs.Table.{Table, at}
 use Rattle.tree.specs.Sound.{size_of}
 use Rattle.tree.specs.Rules.{Shape, Sound}
-use Rattle.tree.specs.Tree.{parent, ancestor, siblings, same_tree, root}
+use Rattle.tree.specs.Tree.{parent, ancestor, siblings, same_tree}
 use Rattle.tree.specs.Axis.{following, preceding, on_axis}
 use Rattle.tree.specs.Kept.{drops}
 use Rattle.tree.specs.Trees.{part, tree_at}

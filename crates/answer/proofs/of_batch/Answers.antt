@@ -1,6 +1,5 @@
 -- `answer::of_batch` meets its contract, by what ended the list. Assumes nothing.
 use Rattle.answer.specs.Answer.{end_answer}
-use borrow.Author.Rules.{rules}
 use Rattle.answer.proofs.of_batch.Goals as goal
 
 pub returns-in-Passed : goal.returns-in-Passed

@@ -1,6 +1,5 @@
 -- `answer::of_carry` meets its contract, case by case. Assumes nothing.
 use Rattle.answer.specs.Answer.{carry_answer}
-use borrow.Author.Rules.{rules}
 use Rattle.answer.proofs.of_carry.Goals as goal
 
 pub returns-in-Written : goal.returns-in-Written

@@ -1,6 +1,5 @@
 -- `answer::of_check` meets its contract, case by case. Assumes nothing.
 use Rattle.answer.specs.Answer.{check_answer}
-use borrow.Author.Rules.{rules}
 use Rattle.answer.proofs.of_check.Goals as goal
 
 pub returns-in-Passed : goal.returns-in-Passed

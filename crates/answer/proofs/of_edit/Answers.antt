@@ -1,10 +1,8 @@
 -- `answer::of_edit` meets its contract, case by case. Assumes nothing.
-use mathlib.Core.Path.{ap, ◌∙◌}
-use native.Mathlib.Omega.{arith}
 use mir.Syntax.{w64}
 use mir.Val.{SFits}
 use mir.Facts.{to_z-of_z}
-use Rattle.answer.specs.Answer.{accepted, edit_answer}
+use Rattle.answer.specs.Answer.{edit_answer}
 use borrow.Author.Rules.{rules}
 use Rattle.answer.proofs.of_edit.Goals as goal
 

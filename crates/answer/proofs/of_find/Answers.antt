@@ -1,9 +1,5 @@
 -- `answer::of_find` meets its contract, case by case. Assumes nothing.
-use mathlib.Core.Path.{subst}
-use Prim.Native.Nat.{◌≤◌}
-use Rattle.tree.specs.declared.Found.{Found}
-use Rattle.answer.specs.Found.{parent_found, find_answer}
-use borrow.Author.Rules.{rules}
+use Rattle.answer.specs.Found.{find_answer}
 use Rattle.answer.proofs.of_find.Goals as goal
 
 pub returns-in-At : goal.returns-in-At

@@ -8,7 +8,6 @@ use mir.Facts.{to_z_pos}
 use lib.IntN.{ℤ}
 use Rattle.tree.specs.declared.Located.{Located}
 use Rattle.answer.specs.Found.{parent_in, located_answer}
-use borrow.Author.Rules.{rules}
 use Rattle.answer.proofs.of_located.Goals as goal
 use Rattle.answer.proofs.of_located.Goals.{After-struct_known-1}
 

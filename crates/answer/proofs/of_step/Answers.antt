@@ -1,6 +1,5 @@
 -- `answer::of_step` meets its contract, case by case. Assumes nothing.
 use Rattle.answer.specs.Answer.{step_answer}
-use borrow.Author.Rules.{rules}
 use Rattle.answer.proofs.of_step.Goals as goal
 
 pub returns-in-Listed : goal.returns-in-Listed

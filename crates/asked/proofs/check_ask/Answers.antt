@@ -1,9 +1,5 @@
 -- `asked::check_ask` meets its contract: 6 before 7. Assumes nothing.
-use borrow.Author.Tests.{not-true, not-false}
 use Rattle.tree.specs.Refusal.{given, next, ask_check}
-use borrow.Author.Rules.{rules}
-use mathlib.Core.Path.{ap}
-use mathlib.Core.Bool.{not}
 use Rattle.asked.proofs.check_ask.Goals as goal
 
 pub returns-then-not-axis_ok : goal.returns-then-not-axis_ok

@@ -1,6 +1,6 @@
 -- `asked::test_ok` meets its contract, arm by arm. Assumes nothing.
 use mathlib.Core.Path.{sym}
-use mathlib.Core.Logic.{inl, inr, ⊎_elim}
+use mathlib.Core.Logic.{inl, inr}
 use native.Mathlib.Omega.{arith}
 use Rattle.tree.proofs.AskLaws.{test_named, test_plain, test_above}
 use Rattle.asked.proofs.test_ok.Goals as goal

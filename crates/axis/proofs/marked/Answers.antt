@@ -2,7 +2,6 @@
 use mathlib.Core.Path.{ap}
 use Rattle.links.specs.Links.{climbs_axis}
 use Rattle.axis.proofs.RoleAxisLaws.{marked_as, marked_last}
-use borrow.Author.Rules.{rules}
 use Rattle.axis.proofs.marked.Goals as goal
 
 pub mark_parents-requires : goal.mark_parents-requires

@@ -5,7 +5,6 @@ use native.Mathlib.Omega.{arith}
 use Rattle.scan.proofs.WroteLaws.{wrote_as}
 use Rattle.axis.proofs.RoleAxisLaws.{role_as, wrote_axis, above_own}
 use Rattle.axis.proofs.RoleAxisLaws.{marked_rest, marked_rows, marked_drains}
-use borrow.Author.Rules.{rules}
 use Rattle.axis.proofs.one_role.Goals as goal
 
 pub overflow_sub-axis : goal.overflow_sub-axis

@@ -1,9 +1,7 @@
 -- `axis::ranged` meets its contract: each arm is the function of its axis. Assumes nothing.
 use mathlib.Core.Logic.{inl, inr}
-use native.Mathlib.Omega.{arith}
 use Rattle.axis.proofs.RoleAxisLaws.{role_as, wrote_axis, ranged_last}
 use Rattle.links.proofs.LinkAxisLaws.{side_of}
-use borrow.Author.Rules.{rules}
 use Rattle.axis.proofs.ranged.Goals as goal
 
 pub rows_after-requires : goal.rows_after-requires

@@ -2,14 +2,10 @@
 -- nothing.
 use native.Mathlib.Omega.{arith}
 use mathlib.Core.Path.{sym, ◌∙◌}
-use borrow.Author.Tests.{not-true, not-false}
 use lib.Dec.{lit≤}
 use Rattle.tree.proofs.SoundLaws.{count_ok_lem}
 use Rattle.keys.proofs.KeyLaws.{cleared}
 use Rattle.batch.proofs.CheckedLaws.{count_refuses}
-use borrow.Author.Rules.{rules}
-use mathlib.Core.Path.{ap}
-use mathlib.Core.Bool.{not}
 use Rattle.batch.proofs.batch.Goals as goal
 
 pub returns-then-not-count_ok : goal.returns-then-not-count_ok

@@ -3,13 +3,9 @@
 use Prim.Native.Nat.{◌<◌, ◌≤◌}
 use mathlib.Core.Path.{◌≡◌, refl, sym, ◌∙◌}
 use mathlib.Core.Bool.{true}
-use native.Mathlib.Omega.{arith}
 use lib.ListN.{length}
-use Rattle.tree.specs.Table.{table_of}
-use Rattle.tree.specs.Batch.{items_of}
 use Rattle.items.specs.SoFar.{goes_on}
-use Rattle.batch.specs.Resumed.{turns_left}
-use Rattle.batch.proofs.SoFarLaws.{SoFar, so_far_start, so_far_later, so_far_end, item_left, turns_less}
+use Rattle.batch.proofs.SoFarLaws.{so_far_later, so_far_end, item_left}
 use borrow.Author.Rules.{rules}
 use Rattle.batch.proofs.do_items.Goals as goal
 use Rattle.batch.proofs.do_items.Goals.{In-loop-i}

@@ -1,16 +1,11 @@
 -- `batch::do_items` meets its contract. The invariant: what was done so far, in columns as long as they were. Assumes
 -- nothing.
-use Prim.Native.Nat.{◌<◌, ◌≤◌}
-use mathlib.Core.Path.{◌≡◌, refl, sym, ◌∙◌}
-use mathlib.Core.Bool.{true}
-use native.Mathlib.Omega.{arith}
+use mathlib.Core.Path.{◌≡◌}
 use lib.ListN.{length}
 use Rattle.tree.specs.Table.{table_of}
 use Rattle.tree.specs.Batch.{items_of}
-use Rattle.items.specs.SoFar.{goes_on}
 use Rattle.batch.specs.Resumed.{turns_left}
-use Rattle.batch.proofs.SoFarLaws.{SoFar, so_far_start, so_far_later, so_far_end, item_left, turns_less}
-use borrow.Author.Rules.{rules}
+use Rattle.batch.proofs.SoFarLaws.{SoFar}
 use Rattle.batch.proofs.do_items.Given as goal
 
 abbrev pub invariant-loop-i : goal.invariant-loop-i

@@ -3,7 +3,6 @@ use native.Mathlib.Omega.{arith}
 use Rattle.tree.proofs.SoundLaws.{sound_shape}
 use Rattle.tree.proofs.LevelLaws.{has_parent}
 use Rattle.batch.proofs.EditItemLaws.{item_missing, item_deletes, item_renames, row_found}
-use borrow.Author.Rules.{rules}
 use Rattle.batch.proofs.edit_item.Goals as goal
 
 pub returns-then-count-row : goal.returns-then-count-row

@@ -1,13 +1,11 @@
 -- `bounds::axis_fits` meets its contract: each arm is the bound of its axes. Assumes nothing.
 use mathlib.Core.Path.{◌≡◌}
 use mathlib.Core.Logic.{inl, inr}
-use mathlib.Core.Bool.{false≢true}
 use native.Mathlib.Nat.{le_trans}
 use native.Mathlib.Omega.{arith}
 use borrow.Author.Tests.{leb-true}
 use Rattle.links.proofs.LinkAxisLaws.{siblings_climb}
 use Rattle.bounds.proofs.AxisBoundLaws.{one_most, below_most, above_most, beside_most}
-use borrow.Author.Rules.{rules}
 use Rattle.bounds.proofs.axis_fits.Goals as goal
 
 pub parent_spans-requires : goal.parent_spans-requires

@@ -1,7 +1,6 @@
 -- `bounds::link_span` meets its contract: a case for each of the two links. Assumes nothing.
 use native.Mathlib.Omega.{arith}
 use Rattle.bounds.proofs.SpanBoundLaws.{link_none, link_some}
-use borrow.Author.Rules.{rules}
 use Rattle.bounds.proofs.link_span.Goals as goal
 
 pub overflow_add-result : goal.overflow_add-result

@@ -1,9 +1,6 @@
 -- `bounds::roles` meets its contract. The invariant: the roles of the first i places are counted. Assumes nothing.
-use Prim.Native.Nat.{◌-◌}
 use native.Mathlib.Omega.{arith}
-use lib.ListN.{length}
-use Rattle.bounds.proofs.RoleBoundLaws.{Changed, roles_none, roles_start, roles_more, roles_small, roles_done}
-use borrow.Author.Rules.{rules}
+use Rattle.bounds.proofs.RoleBoundLaws.{roles_none, roles_start, roles_more, roles_small, roles_done}
 use Rattle.bounds.proofs.roles.Goals as goal
 
 pub returns-then-role-eq0 : goal.returns-then-role-eq0

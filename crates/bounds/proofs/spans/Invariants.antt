@@ -1,12 +1,8 @@
 -- `bounds::spans` meets its contract. The invariant: the rows before place i are added up. Assumes nothing.
 use Prim.Native.Nat.{◌-◌}
-use mathlib.Core.Path.{refl}
-use native.Mathlib.Omega.{arith}
 use lib.ListN.{length}
 use Rattle.bounds.specs.Bounds.{span_of}
-use Rattle.bounds.proofs.SumLaws.{Summed, summed_start, summed_small, summed_more, summed_done}
-use Rattle.bounds.proofs.SpanBoundLaws.{span_small, spans_small}
-use borrow.Author.Rules.{rules}
+use Rattle.bounds.proofs.SumLaws.{Summed}
 use Rattle.bounds.proofs.spans.Given as goal
 
 abbrev pub invariant-loop-i : goal.invariant-loop-i

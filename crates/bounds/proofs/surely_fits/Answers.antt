@@ -6,7 +6,6 @@ use borrow.Author.Tests.{leb-true}
 use Rattle.runs.proofs.StepRunLaws.{pairs_fit}
 use Rattle.bounds.proofs.RoleBoundLaws.{roles_most, roles_few}
 use Rattle.bounds.proofs.PairBoundLaws.{rows_few, pairs_most}
-use borrow.Author.Rules.{rules}
 use Rattle.bounds.proofs.surely_fits.Goals as goal
 
 pub axis_fits-requires : goal.axis_fits-requires

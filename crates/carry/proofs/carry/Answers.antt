@@ -4,7 +4,6 @@ use native.Mathlib.Omega.{arith}
 use mir.Syntax.{w64}
 use mir.Facts.{to_z-of_z}
 use Rattle.carry.proofs.CarryLeavesLaws.{leaves_refused, call_moves, leaves_full, call_ready, leaves_written}
-use borrow.Author.Rules.{rules}
 use Rattle.carry.proofs.carry.Goals as goal
 
 pub moved_to-to-requires : goal.moved_to-to-requires

@@ -1,11 +1,8 @@
 -- `clash::chain` meets its contract: the first i rows are chained. Assumes nothing.
 use Prim.Native.Nat.{◌≤◌, ◌-◌}
 use mathlib.Core.Path.{◌≡◌}
-use native.Mathlib.Nat.{le_antisymm}
 use lib.ListN.{length}
 use Rattle.keys.specs.Chain.{Chained}
-use Rattle.keys.proofs.KeyLaws.{room_for}
-use borrow.Author.Rules.{rules}
 use Rattle.clash.proofs.chain.Given as goal
 
 abbrev pub invariant-loop-i : goal.invariant-loop-i

@@ -1,14 +1,7 @@
 -- `clash::clash_by_rows` meets its contract: no key of the rows below i is taken. Assumes nothing.
-use Prim.Native.Nat.{ℕ, ◌≤◌, ◌<◌, ◌-◌}
-use mathlib.Core.Path.{◌≡◌, sym}
-use mathlib.Core.Bool.{false}
-use lib.Dec.{ltb}
-use borrow.Author.Count.{below_more, below_none}
-use borrow.Author.Tests.{lt-ltb, le-ltb}
-use Rattle.tree.specs.Table.{at}
-use Rattle.tree.specs.Sound.{row_of}
+use mathlib.Core.Path.{sym}
+use borrow.Author.Tests.{lt-ltb}
 use Rattle.tree.proofs.SearchLaws.{least_at, least_end}
-use borrow.Author.Rules.{rules}
 use Rattle.clash.proofs.clash_by_rows.Goals as goal
 
 pub returns-then-row_of-n : goal.returns-then-row_of-n

@@ -1,14 +1,10 @@
 -- `clash::clash_by_rows` meets its contract: no key of the rows below i is taken. Assumes nothing.
 use Prim.Native.Nat.{ℕ, ◌≤◌, ◌<◌, ◌-◌}
-use mathlib.Core.Path.{◌≡◌, sym}
+use mathlib.Core.Path.{◌≡◌}
 use mathlib.Core.Bool.{false}
 use lib.Dec.{ltb}
-use borrow.Author.Count.{below_more, below_none}
-use borrow.Author.Tests.{lt-ltb, le-ltb}
 use Rattle.tree.specs.Table.{at}
 use Rattle.tree.specs.Sound.{row_of}
-use Rattle.tree.proofs.SearchLaws.{least_at, least_end}
-use borrow.Author.Rules.{rules}
 use Rattle.clash.proofs.clash_by_rows.Given as goal
 
 abbrev pub invariant-loop-i : goal.invariant-loop-i

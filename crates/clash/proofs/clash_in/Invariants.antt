@@ -1,16 +1,12 @@
 -- `clash::clash_in` meets its contract: all n rows are chained, and no key of the piece's rows below i is taken.
 -- Assumes nothing.
 use Prim.Native.Nat.{ℕ, ◌≤◌, ◌<◌, ◌-◌}
-use mathlib.Core.Path.{◌≡◌, sym}
+use mathlib.Core.Path.{◌≡◌}
 use mathlib.Core.Bool.{false}
 use lib.Dec.{ltb}
-use borrow.Author.Count.{below_more, below_none}
-use borrow.Author.Tests.{lt-ltb, le-ltb}
 use Rattle.tree.specs.Table.{at}
 use Rattle.tree.specs.Sound.{row_of}
-use Rattle.tree.proofs.SearchLaws.{least_at, least_end}
 use Rattle.keys.specs.Chain.{ChainRoom, Chained}
-use borrow.Author.Rules.{rules}
 use Rattle.clash.proofs.clash_in.Given as goal
 
 abbrev pub invariant-loop-i : goal.invariant-loop-i

@@ -4,7 +4,6 @@ use mathlib.Core.Path.{refl, sym, ◌∙◌}
 use Rattle.tree.specs.Outcome.{check_outcome, delete_outcome}
 use Rattle.tree.proofs.SoundLaws.{table_passes}
 use Rattle.edit.proofs.KeyOutcomeLaws.{check_refused, key_missing, known, delete_found}
-use borrow.Author.Rules.{rules}
 use Rattle.edit.proofs.delete.Goals as goal
 
 pub returns-in-Refused : goal.returns-in-Refused

@@ -1,14 +1,9 @@
 -- `following::first_after` meets its contract. The invariant: first is the least row after one of the first k
 -- contexts. Assumes nothing.
-use mathlib.Core.Path.{◌≡◌, ap, ◌∙◌}
-use Prim.Native.Nat.{◌+◌, ◌-◌, ◌<◌, ◌≤◌}
-use native.Mathlib.Nat.{le_antisymm}
-use native.Mathlib.Omega.{arith}
-use borrow.Author.Rules.{rules}
+use mathlib.Core.Path.{◌≡◌}
+use Prim.Native.Nat.{◌-◌, ◌≤◌}
 use lib.ListN.{length}
-use Rattle.tree.specs.Table.{at}
 use Rattle.scan.specs.Range.{first_after}
-use Rattle.scan.proofs.SideLaws.{after_none, after_more}
 use Rattle.following.proofs.first_after.Given as goal
 
 abbrev pub invariant-loop-k : goal.invariant-loop-k

@@ -5,7 +5,6 @@ use Rattle.tree.specs.Table.{Table, table_of}
 use Rattle.tree.specs.Refusal.{insert_check}
 use Rattle.tree.specs.Outcome.{row_there}
 use Rattle.edit_at.proofs.OutcomeLaws.{leaves, own_refused}
-use borrow.Author.Rules.{rules}
 use Rattle.insert_at.proofs.insert_at.Goals as goal
 use Rattle.insert_at.proofs.insert_at.Goals.{After-check_piece-checked}
 

@@ -3,7 +3,6 @@ use borrow.Author.Tests.{lt-ltb, le-ltb}
 use Rattle.tree.specs.Search.{some_below}
 use Rattle.tree.specs.Refusal.{given}
 use Rattle.tree.specs.Batch.{list_check}
-use borrow.Author.Rules.{rules}
 use Rattle.items.proofs.check_list.Goals as goal
 
 pub returns-then-either : goal.returns-then-either

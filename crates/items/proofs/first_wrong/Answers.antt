@@ -1,11 +1,7 @@
 -- `items::first_wrong` meets its contract. The invariant: every code below i is 1 or 2. Assumes nothing.
-use Prim.Native.Nat.{ℕ, ◌≤◌, ◌<◌, ◌-◌}
-use mathlib.Core.Path.{◌≡◌, sym, ap, ◌∙◌}
-use mathlib.Core.Bool.{not, false}
-use borrow.Author.Count.{below_more, below_none}
+use mathlib.Core.Path.{sym, ap, ◌∙◌}
+use mathlib.Core.Bool.{not}
 use Rattle.tree.proofs.SearchLaws.{least_at, least_end}
-use Rattle.tree.specs.Batch.{wrong_code}
-use borrow.Author.Rules.{rules}
 use Rattle.items.proofs.first_wrong.Goals as goal
 
 pub returns-then-not-either : goal.returns-then-not-either

@@ -1,9 +1,8 @@
 -- `kept::kept_of` meets its contract: each arm counts on one axis of a group whose axes keep the same.
 -- Assumes nothing.
 use mathlib.Core.Path.{◌∙◌}
-use mathlib.Core.Logic.{inl, inr, ⊎_elim}
+use mathlib.Core.Logic.{inl, inr}
 use native.Mathlib.Omega.{arith}
-use borrow.Author.Rules.{rules}
 use Rattle.kept_rows.proofs.KeptOfLaws.{kept_descend, kept_ascend, kept_aside, kept_plain}
 use Rattle.kept_rows.proofs.KeptPassLaws.{kept_few}
 use Rattle.kept.proofs.KeptTreeLaws.{side_range}

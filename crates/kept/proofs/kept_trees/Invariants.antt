@@ -1,12 +1,8 @@
 -- `kept::kept_trees` meets its contract. The invariant: of the first i contexts, the rows kept up to the last are
 -- counted; contexts of one tree need no loop. Assumes nothing.
 use Prim.Native.Nat.{◌-◌}
-use mathlib.Core.Logic.{⊎_elim}
-use native.Mathlib.Omega.{arith}
-use borrow.Author.Rules.{rules}
 use lib.ListN.{length}
-use Rattle.kept.proofs.KeptTreeLaws.{Trees, trees_start, trees_count, trees_skip, trees_done, trees_one}
-use Rattle.kept.proofs.KeptTreeLaws.{tops_in}
+use Rattle.kept.proofs.KeptTreeLaws.{Trees}
 use Rattle.kept.proofs.kept_trees.Given as goal
 
 abbrev pub invariant-loop-i : goal.invariant-loop-i

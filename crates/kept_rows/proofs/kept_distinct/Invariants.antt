@@ -1,10 +1,8 @@
 -- `kept_rows::kept_distinct` meets its contract. The invariant: of the first i contexts the last is counted, and the
 -- distinct ones below it. Assumes nothing.
 use Prim.Native.Nat.{◌-◌}
-use mathlib.Core.Logic.{⊎_elim}
-use borrow.Author.Rules.{rules}
 use lib.ListN.{length}
-use Rattle.kept_rows.proofs.KeptPassLaws.{Passed, pass_start, own_count, own_skip, own_done}
+use Rattle.kept_rows.proofs.KeptPassLaws.{Passed}
 use Rattle.kept_rows.proofs.kept_distinct.Given as goal
 
 abbrev pub invariant-loop-i : goal.invariant-loop-i

@@ -1,13 +1,11 @@
 -- `kept_rows::kept_innermost` meets its contract. The invariant: of the first i contexts the last is counted, and
 -- those below it that are ancestors of no other. Assumes nothing.
 use Prim.Native.Nat.{◌+◌, ◌-◌, ◌<◌, ◌≤◌}
-use mathlib.Core.Logic.{⊎_elim}
 use native.Mathlib.Omega.{arith}
-use borrow.Author.Rules.{rules}
 use lib.ListN.{length}
 use Rattle.tree.specs.Table.{at}
 use Rattle.tree.proofs.SoundLaws.{shape_fits}
-use Rattle.kept_rows.proofs.KeptPassLaws.{Passed, pass_start, inner_count, inner_skip, inner_done}
+use Rattle.kept_rows.proofs.KeptPassLaws.{pass_start, inner_count, inner_skip, inner_done}
 use Rattle.kept_rows.proofs.kept_innermost.Goals as goal
 use Rattle.kept_rows.proofs.kept_innermost.Goals.{In-loop-i, else-c-size, then-c-size}
 

@@ -1,13 +1,11 @@
 -- `kept_rows::kept_outermost` meets its contract. The invariant: the rows kept below pos are counted, and the first i
 -- contexts and their descendants lie before pos. Assumes nothing.
-use mathlib.Core.Path.{refl}
-use Prim.Native.Nat.{◌+◌, ◌-◌, ◌<◌, ◌≤◌}
+use Prim.Native.Nat.{◌+◌, ◌<◌, ◌≤◌}
 use native.Mathlib.Omega.{arith}
-use borrow.Author.Rules.{rules}
 use lib.ListN.{length}
 use Rattle.tree.specs.Table.{at}
 use Rattle.tree.proofs.SoundLaws.{shape_fits}
-use Rattle.kept_rows.proofs.KeptOuterLaws.{Outer, outer_start, outer_turn, outer_done}
+use Rattle.kept_rows.proofs.KeptOuterLaws.{outer_start, outer_turn, outer_done}
 use Rattle.kept_rows.proofs.kept_outermost.Goals as goal
 use Rattle.kept_rows.proofs.kept_outermost.Goals.{In-loop-i}
 

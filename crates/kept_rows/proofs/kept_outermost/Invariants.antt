@@ -1,13 +1,8 @@
 -- `kept_rows::kept_outermost` meets its contract. The invariant: the rows kept below pos are counted, and the first i
 -- contexts and their descendants lie before pos. Assumes nothing.
-use mathlib.Core.Path.{refl}
-use Prim.Native.Nat.{◌+◌, ◌-◌, ◌<◌, ◌≤◌}
-use native.Mathlib.Omega.{arith}
-use borrow.Author.Rules.{rules}
+use Prim.Native.Nat.{◌-◌}
 use lib.ListN.{length}
-use Rattle.tree.specs.Table.{at}
-use Rattle.tree.proofs.SoundLaws.{shape_fits}
-use Rattle.kept_rows.proofs.KeptOuterLaws.{Outer, outer_start, outer_turn, outer_done}
+use Rattle.kept_rows.proofs.KeptOuterLaws.{Outer}
 use Rattle.kept_rows.proofs.kept_outermost.Given as goal
 
 abbrev pub invariant-loop-i : goal.invariant-loop-i

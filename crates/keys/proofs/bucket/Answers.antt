@@ -2,7 +2,6 @@
 use mathlib.Core.Path.{refl}
 use Rattle.keys.specs.Chain.{bucket_of}
 use Rattle.keys.proofs.KeyLaws.{bucket_lt}
-use borrow.Author.Rules.{rules}
 use Rattle.keys.proofs.bucket.Goals as goal
 
 pub returns : goal.returns

@@ -1,16 +1,9 @@
 -- `keys::first_in` meets its contract. The invariant: the rows below i are chained by bucket, in columns as long as
 -- they were, and the key of each is good. Assumes nothing.
-use Prim.Native.Nat.{ℕ, ◌≤◌, ◌<◌, ◌-◌}
-use mathlib.Core.Path.{◌≡◌, sym, ap, ◌∙◌}
-use mathlib.Core.Bool.{not, false}
-use lib.ListN.{length}
-use borrow.Author.Count.{below_more, below_none}
+use mathlib.Core.Path.{sym, ap, ◌∙◌}
+use mathlib.Core.Bool.{not}
 use Rattle.tree.proofs.SearchLaws.{least_at, least_end}
 use Rattle.keys.specs.FirstKey.{first_key}
-use Rattle.tree.specs.Sound.{key_ok}
-use Rattle.keys.specs.Chain.{Chained}
-use Rattle.keys.proofs.KeyLaws.{room_for}
-use borrow.Author.Rules.{rules}
 use Rattle.keys.proofs.first_in.Goals as goal
 
 pub returns-then-not-key_ok : goal.returns-then-not-key_ok

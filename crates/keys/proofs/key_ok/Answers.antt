@@ -1,7 +1,6 @@
 -- `keys::key_ok` meets its contract: the key is 0, or a walk along its chain says whether it is new. Assumes nothing.
 use mathlib.Core.Path.{sym}
 use Rattle.keys.proofs.KeyLaws.{key_zero, key_new}
-use borrow.Author.Rules.{rules}
 use Rattle.keys.proofs.key_ok.Goals as goal
 
 pub returns-then-x-eq0 : goal.returns-then-x-eq0

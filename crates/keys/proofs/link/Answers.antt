@@ -2,7 +2,6 @@
 use mathlib.Core.Path.{refl}
 use native.Mathlib.Omega.{arith}
 use Rattle.keys.proofs.KeyLaws.{chained_more}
-use borrow.Author.Rules.{rules}
 use Rattle.keys.proofs.link.Goals as goal
 
 pub returns : goal.returns

@@ -1,15 +1,9 @@
 -- `keys::past_eights` meets its contract: no row below k has the key. Assumes nothing.
 use Prim.Native.Nat.{ℕ, ◌≤◌, ◌<◌, ◌-◌}
-use mathlib.Core.Path.{◌≡◌, sym, ◌∙◌}
-use mathlib.Core.Logic.{⊎_elim}
-use mathlib.Core.Bool.{false, true≢false}
-use native.Mathlib.Omega.{arith}
-use borrow.Author.Count.{below_none}
-use borrow.Author.Tests.{ne_eqb}
+use mathlib.Core.Path.{◌≡◌}
+use mathlib.Core.Bool.{false}
 use lib.Dec.{eqb}
 use Rattle.tree.specs.Table.{at}
-use Rattle.tree.proofs.TreeLaws.{less?}
-use borrow.Author.Rules.{rules}
 use Rattle.keys.proofs.past_eights.Given as goal
 
 abbrev pub invariant-loop-k : goal.invariant-loop-k

@@ -1,13 +1,9 @@
 -- `keys::row_in` meets its contract. The invariant: of the rows that the walk has passed, the row kept is the least that
 -- has the key x; one before it is on the rest of the chain. Assumes nothing.
-use Prim.Native.Nat.{ℕ, ◌≤◌, ◌<◌, ◌-◌}
-use mathlib.Core.Path.{◌≡◌, sym, subst}
-use mathlib.Core.Logic.{⊎_elim}
-use native.Mathlib.Nat.{le_refl, lt_irrefl}
-use native.Mathlib.Omega.{arith}
+use Prim.Native.Nat.{◌≤◌, ◌<◌}
+use mathlib.Core.Path.{◌≡◌}
 use Rattle.tree.specs.Table.{at}
-use Rattle.keys.proofs.KeyLaws.{Walk, walk_start, walk_less, walk_step, walk_hit, walk_end}
-use borrow.Author.Rules.{rules}
+use Rattle.keys.proofs.KeyLaws.{Walk}
 use Rattle.keys.proofs.row_in.Given as goal
 
 abbrev pub invariant-loop-r : goal.invariant-loop-r

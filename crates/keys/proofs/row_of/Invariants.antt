@@ -1,14 +1,9 @@
 -- `keys::row_of` meets its contract. The invariant: no row below k has the key. Assumes nothing.
 use Prim.Native.Nat.{ℕ, ◌≤◌, ◌<◌, ◌-◌}
-use mathlib.Core.Path.{◌≡◌, sym}
+use mathlib.Core.Path.{◌≡◌}
 use mathlib.Core.Bool.{false}
 use lib.Dec.{eqb}
 use lib.ListN.{get_or}
-use borrow.Author.Count.{below_more}
-use borrow.Author.Tests.{ne_eqb, eq-eqb}
-use Rattle.tree.proofs.SearchLaws.{least_at, least_end}
-use Rattle.tree.specs.Sound.{row_of}
-use borrow.Author.Rules.{rules}
 use Rattle.keys.proofs.row_of.Given as goal
 
 abbrev pub invariant-loop-k : goal.invariant-loop-k

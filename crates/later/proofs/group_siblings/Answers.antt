@@ -1,7 +1,6 @@
 -- `later::group_siblings` meets its contract. Assumes nothing.
 use mathlib.Core.Path.{refl}
 use native.Mathlib.Omega.{arith}
-use borrow.Author.Rules.{rules}
 use Rattle.tree.specs.Axis.{axis_ok}
 use Rattle.links.proofs.LinkAxisLaws.{siblings_climb, climbs_aside}
 use Rattle.later.proofs.group_siblings.Goals as goal

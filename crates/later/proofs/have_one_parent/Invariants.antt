@@ -1,11 +1,7 @@
 -- `later::have_one_parent` meets its contract. The loop's invariant: the contexts before number k have the
 -- parent of the first. Assumes nothing.
 use Prim.Native.Nat.{ℕ, ◌-◌, ◌<◌, ◌≤◌}
-use mathlib.Core.Path.{◌≡◌, ap}
-use mathlib.Core.Bool.{false≢true}
-use native.Mathlib.Omega.{arith}
-use borrow.Author.Count.{below_more}
-use borrow.Author.Rules.{rules}
+use mathlib.Core.Path.{◌≡◌}
 use lib.ListN.{length}
 use Rattle.tree.specs.Table.{at}
 use Rattle.later.proofs.have_one_parent.Given as goal

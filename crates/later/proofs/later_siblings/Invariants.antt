@@ -1,15 +1,10 @@
 -- `later::later_siblings` meets its contract. The loop's invariant: what the contexts before number i reach is
 -- written, what the others reach comes after it, and the set is empty. Assumes nothing.
-use Prim.Native.Nat.{◌-◌, ◌≤◌}
-use mathlib.Core.Path.{◌≡◌}
-use native.Mathlib.Nat.{le_refl}
-use native.Mathlib.Omega.{arith}
-use borrow.Author.Rules.{rules}
+use Prim.Native.Nat.{◌-◌}
 use lib.ListN.{length}
 use Rattle.scan.specs.Want.{fits}
 use Rattle.marks.specs.RowSet.{Blank}
-use Rattle.later.proofs.GroupLaws.{Grouped, group_start, group_length, group_index, group_done}
-use Rattle.later.proofs.GroupLaws.{group_less, group_some, group_asks, group_sum, group_turn}
+use Rattle.later.proofs.GroupLaws.{Grouped}
 use Rattle.later.proofs.later_siblings.Given as goal
 
 abbrev pub invariant-loop-i : goal.invariant-loop-i

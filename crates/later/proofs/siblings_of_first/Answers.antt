@@ -2,7 +2,6 @@
 -- parent. Assumes nothing.
 use mathlib.Core.Path.{refl}
 use native.Mathlib.Omega.{arith}
-use borrow.Author.Rules.{rules}
 use Rattle.tree.proofs.SoundLaws.{shape_fits}
 use Rattle.later.proofs.OneParentLaws.{first_row, first_none, first_end, first_asks, first_done}
 use Rattle.later.proofs.siblings_of_first.Goals as goal

@@ -1,13 +1,8 @@
 -- `lines::count_all` meets its contract. The lines of the roles before number i are counted. Assumes nothing.
-use Prim.Native.Nat.{ℕ, ◌-◌}
-use native.Mathlib.Omega.{arith}
-use lib.ListN.{length, replicate, length-replicate}
+use Prim.Native.Nat.{◌-◌}
+use lib.ListN.{length}
 use Rattle.tree.specs.Table.{table_of}
-use Rattle.marks.proofs.RowSetLaws.{blank_zeros}
-use Rattle.runs.proofs.StepRunLaws.{pairs_fit}
-use Rattle.lines.proofs.CountedLaws.{Counted, counted_none, counted_asks}
-use Rattle.lines.proofs.CountedLaws.{counted_small, counted_more, counted_done}
-use borrow.Author.Rules.{rules}
+use Rattle.lines.proofs.CountedLaws.{Counted}
 use Rattle.lines.proofs.count_all.Given as goal
 
 abbrev pub invariant-loop-i : goal.invariant-loop-i

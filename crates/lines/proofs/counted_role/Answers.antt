@@ -2,11 +2,9 @@
 -- role asks, and write the same rows. Assumes nothing.
 use mathlib.Core.Path.{sym, ◌∙◌}
 use native.Mathlib.Omega.{arith}
-use borrow.Author.Rules.{rules}
-use Rattle.axis.proofs.RoleAxisLaws.{lone_asks, climb_asks, rising_asks, direct_done}
+use Rattle.axis.proofs.RoleAxisLaws.{lone_asks, climb_asks, rising_asks}
 use Rattle.links.proofs.LinkAxisLaws.{siblings_climb}
 use Rattle.lone.proofs.LoneLaws.{lone_path_lem}
-use Rattle.axis.proofs.RoleAxisLaws.{done_as, wrote_axis}
 use Rattle.lines.proofs.counted_role.Goals as goal
 
 pub lone_rows-requires : goal.lone_rows-requires

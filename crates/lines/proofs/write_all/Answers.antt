@@ -1,17 +1,15 @@
 -- `lines::write_all` meets its contract. The lines of the roles before number i stand in the result columns, and
 -- their kept pairs are counted. Assumes nothing.
-use Prim.Native.Nat.{ℕ, ◌-◌}
+use Prim.Native.Nat.{ℕ}
 use native.Mathlib.Omega.{arith}
-use lib.ListN.{length, replicate}
-use Rattle.tree.specs.Table.{table_of}
+use lib.ListN.{replicate}
 use Rattle.tree.proofs.SoundLaws.{sound_shape}
 use Rattle.marks.proofs.RowSetLaws.{blank_zeros}
 use Rattle.runs.proofs.StepRunLaws.{pairs_fit}
-use Rattle.lines.proofs.WrittenLaws.{Written, written_none, written_roles, written_rows}
+use Rattle.lines.proofs.WrittenLaws.{written_none}
 use Rattle.lines.proofs.WrittenLaws.{written_start, written_starts, written_asks, written_room}
 use Rattle.lines.proofs.WrittenLaws.{written_step, written_more, written_done}
-use Rattle.lines.proofs.KeptRunLaws.{Keeping, keeping_none, keeping_asks, run_most, keeping_more, keeping_done}
-use borrow.Author.Rules.{rules}
+use Rattle.lines.proofs.KeptRunLaws.{keeping_none, keeping_asks, run_most, keeping_more, keeping_done}
 use Rattle.lines.proofs.write_all.Goals as goal
 
 pub loop-i-init : goal.loop-i-init

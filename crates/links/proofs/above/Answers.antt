@@ -1,7 +1,5 @@
 -- `links::above` meets its contract. Assumes nothing.
-use native.Mathlib.Omega.{arith}
 use borrow.Author.Tests.{eq-eqb, ne_eqb}
-use borrow.Author.Rules.{rules}
 use Rattle.links.specs.Links.{above_of}
 use Rattle.links.proofs.above.Goals as goal
 

@@ -1,10 +1,9 @@
 -- `links::parents` meets its contract. The loop's invariant, `Opened`: the rows before i have their parents,
 -- and at each level up to that of the row before i the path has the last row of that level. Assumes nothing.
-use Prim.Native.Nat.{◌-◌, ◌<◌}
+use Prim.Native.Nat.{◌<◌}
 use native.Mathlib.Omega.{arith}
-use borrow.Author.Rules.{rules}
 use Rattle.tree.specs.Table.{at}
-use Rattle.links.proofs.ParentPassLaws.{Opened, open_start, open_high, open_small, open_next, open_done}
+use Rattle.links.proofs.ParentPassLaws.{open_start, open_high, open_small, open_next}
 use Rattle.links.proofs.parents.Goals as goal
 use Rattle.links.proofs.parents.Goals.{After-shared_slice_known-in-loop-i-1}
 

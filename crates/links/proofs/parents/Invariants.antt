@@ -1,10 +1,7 @@
 -- `links::parents` meets its contract. The loop's invariant, `Opened`: the rows before i have their parents,
 -- and at each level up to that of the row before i the path has the last row of that level. Assumes nothing.
-use Prim.Native.Nat.{◌-◌, ◌<◌}
-use native.Mathlib.Omega.{arith}
-use borrow.Author.Rules.{rules}
-use Rattle.tree.specs.Table.{at}
-use Rattle.links.proofs.ParentPassLaws.{Opened, open_start, open_high, open_small, open_next, open_done}
+use Prim.Native.Nat.{◌-◌}
+use Rattle.links.proofs.ParentPassLaws.{Opened}
 use Rattle.links.proofs.parents.Given as goal
 
 abbrev pub invariant-loop-i : goal.invariant-loop-i

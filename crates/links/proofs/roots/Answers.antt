@@ -1,10 +1,8 @@
 -- `links::roots` meets its contract. The loop's invariant, `Rooted`: the rows before i have their roots; one tree
 -- needs no loop. Assumes nothing.
-use Prim.Native.Nat.{◌-◌}
 use native.Mathlib.Omega.{arith}
-use borrow.Author.Rules.{rules}
 use Rattle.tree.proofs.SoundLaws.{shape_fits}
-use Rattle.links.proofs.RootedLaws.{Rooted, rooted_start, rooted_next, rooted_done, rooted_lone}
+use Rattle.links.proofs.RootedLaws.{rooted_next, rooted_lone}
 use Rattle.links.proofs.roots.Goals as goal
 
 pub overflow_add-size : goal.overflow_add-size

@@ -1,10 +1,7 @@
 -- `links::roots` meets its contract. The loop's invariant, `Rooted`: the rows before i have their roots; one tree
 -- needs no loop. Assumes nothing.
 use Prim.Native.Nat.{◌-◌}
-use native.Mathlib.Omega.{arith}
-use borrow.Author.Rules.{rules}
-use Rattle.tree.proofs.SoundLaws.{shape_fits}
-use Rattle.links.proofs.RootedLaws.{Rooted, rooted_start, rooted_next, rooted_done, rooted_lone}
+use Rattle.links.proofs.RootedLaws.{Rooted}
 use Rattle.links.proofs.roots.Given as goal
 
 abbrev pub invariant-loop-i : goal.invariant-loop-i

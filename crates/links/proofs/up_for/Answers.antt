@@ -1,7 +1,5 @@
 -- `links::up_for` meets its contract: on other axes nothing is asked of up. Assumes nothing.
 use mathlib.Core.Path.{sym, ◌∙◌}
-use mathlib.Core.Bool.{true≢false}
-use borrow.Author.Rules.{rules}
 use Rattle.links.proofs.LinkAxisLaws.{climbs_aside}
 use Rattle.links.proofs.up_for.Goals as goal
 

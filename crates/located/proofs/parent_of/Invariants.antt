@@ -1,13 +1,7 @@
 -- `located::parent_of` meets its contract. The invariant: behind row i no row has the parent's level. Assumes nothing.
-use mathlib.Core.Path.{◌≡◌, ap, ◌∙◌}
-use mathlib.Core.Logic.{⊎_elim}
+use mathlib.Core.Path.{◌≡◌}
 use Prim.Native.Nat.{ℕ, ◌+◌, ◌≤◌, ◌<◌}
-use native.Mathlib.Nat.{eq-or-lt_of_le}
-use native.Mathlib.Omega.{arith}
 use Rattle.tree.specs.Table.{at}
-use Rattle.tree.specs.Tree.{parent}
-use Rattle.located.proofs.ParentLaws.{parent_within, parent_here}
-use borrow.Author.Rules.{rules}
 use Rattle.located.proofs.parent_of.Given as goal
 
 abbrev pub invariant-loop-i : goal.invariant-loop-i

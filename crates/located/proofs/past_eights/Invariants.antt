@@ -1,13 +1,8 @@
 -- `located::past_eights` meets its contract: from row i on, up to the row asked for, no row has the level. Assumes
 -- nothing.
 use Prim.Native.Nat.{ℕ, ◌≤◌, ◌<◌}
-use mathlib.Core.Path.{◌≡◌, sym, ◌∙◌}
-use mathlib.Core.Logic.{⊎_elim}
-use mathlib.Core.Bool.{true≢false}
-use native.Mathlib.Omega.{arith}
+use mathlib.Core.Path.{◌≡◌}
 use Rattle.tree.specs.Table.{at}
-use Rattle.tree.proofs.TreeLaws.{less?}
-use borrow.Author.Rules.{rules}
 use Rattle.located.proofs.past_eights.Given as goal
 
 abbrev pub invariant-loop-i : goal.invariant-loop-i

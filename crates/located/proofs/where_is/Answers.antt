@@ -2,10 +2,8 @@
 -- Assumes nothing.
 use mathlib.Core.Path.{sym, ◌∙◌}
 use native.Mathlib.Numerals.{add-one}
-use native.Mathlib.Omega.{arith}
 use Rattle.tree.proofs.TreeLaws.{parent_none}
 use Rattle.tree.proofs.StandingLaws.{stands_root, stands_under}
-use borrow.Author.Rules.{rules}
 use Rattle.located.proofs.where_is.Goals as goal
 
 pub returns-then-own-eq0 : goal.returns-then-own-eq0

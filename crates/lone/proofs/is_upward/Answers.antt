@@ -2,7 +2,6 @@
 use mathlib.Core.Path.{sym, ◌∙◌}
 use mathlib.Core.Logic.{inl, inr}
 use native.Mathlib.Omega.{arith}
-use borrow.Author.Rules.{rules}
 use Rattle.lone.proofs.LoneLaws.{upward_parent, upward_above, upward_other}
 use Rattle.lone.proofs.is_upward.Goals as goal
 

@@ -3,10 +3,9 @@
 use mathlib.Core.Path.{sym}
 use native.Mathlib.Omega.{arith}
 use Rattle.scan.proofs.WroteLaws.{wrote_as}
-use Rattle.lone.proofs.LoneLaws.{lone_one, lone_row, lone_selves_rows, lone_selves_asks}
+use Rattle.lone.proofs.LoneLaws.{lone_one, lone_selves_rows, lone_selves_asks}
 use Rattle.lone.proofs.LoneLaws.{lone_above_rows, lone_above_asks}
 use Rattle.lone.proofs.LoneLaws.{lone_parent_none, lone_parent_asks, lone_parent_done}
-use borrow.Author.Rules.{rules}
 use Rattle.lone.proofs.lone_rows.Goals as goal
 
 pub bounds-rows-0 : goal.bounds-rows-0

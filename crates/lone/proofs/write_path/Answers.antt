@@ -2,8 +2,7 @@
 -- the first k results, and the rows below them are written. Assumes nothing.
 use Prim.Native.Nat.{◌-◌}
 use native.Mathlib.Omega.{arith}
-use borrow.Author.Rules.{rules}
-use Rattle.lone.proofs.PathLaws.{PathLeft, path_start, path_next, path_done, path_some, path_few, path_length}
+use Rattle.lone.proofs.PathLaws.{path_next, path_done, path_some}
 use Rattle.lone.proofs.write_path.Goals as goal
 
 pub overflow_sub-v : goal.overflow_sub-v

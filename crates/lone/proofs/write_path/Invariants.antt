@@ -1,9 +1,6 @@
 -- `lone::write_path` meets its contract. The loop's invariant, `PathLeft`: the rows of the path from `at` are to be
 -- the first k results, and the rows below them are written. Assumes nothing.
-use Prim.Native.Nat.{◌-◌}
-use native.Mathlib.Omega.{arith}
-use borrow.Author.Rules.{rules}
-use Rattle.lone.proofs.PathLaws.{PathLeft, path_start, path_next, path_done, path_some, path_few, path_length}
+use Rattle.lone.proofs.PathLaws.{PathLeft}
 use Rattle.lone.proofs.write_path.Given as goal
 
 abbrev pub invariant-loop-k : goal.invariant-loop-k

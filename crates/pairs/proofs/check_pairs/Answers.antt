@@ -4,7 +4,6 @@ use borrow.Author.Tests.{lt-ltb, le-ltb, eq-eqb, ne_eqb, not-true}
 use Rattle.tree.specs.Refusal.{given, given_at, next, pair_check}
 use Rattle.tree.proofs.AcceptLaws.{neither}
 use Rattle.pairs.proofs.PairLaws.{pair_check_is, pairs_pass}
-use borrow.Author.Rules.{rules}
 use mathlib.Core.Path.{ap}
 use mathlib.Core.Bool.{not}
 use Rattle.pairs.proofs.check_pairs.Goals as goal

@@ -1,6 +1,5 @@
 -- `pairs::comes_before` meets its contract: the tests, joined in the definition's order. Assumes nothing.
 use Rattle.tree.specs.Pairs.{before}
-use borrow.Author.Rules.{rules}
 use Rattle.pairs.proofs.comes_before.Goals as goal
 
 pub returns : goal.returns

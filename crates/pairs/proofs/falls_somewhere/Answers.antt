@@ -1,13 +1,9 @@
 -- `pairs::falls_somewhere` meets its contract: where nothing fell yet, the places below i are in order.
 -- Assumes nothing.
-use Prim.Native.Nat.{◌≤◌, ◌-◌}
-use mathlib.Core.Path.{◌≡◌, sym, ◌∙◌}
-use mathlib.Core.Bool.{false}
+use mathlib.Core.Path.{sym, ◌∙◌}
 use native.Mathlib.Omega.{arith}
-use lib.ListN.{length}
 use Rattle.tree.proofs.AcceptLaws.{neither}
-use Rattle.pairs.proofs.PairLaws.{OrderedBelow, order_first, order_next}
-use borrow.Author.Rules.{rules}
+use Rattle.pairs.proofs.PairLaws.{order_first, order_next}
 use Rattle.pairs.proofs.falls_somewhere.Goals as goal
 
 pub loop-i-init : goal.loop-i-init

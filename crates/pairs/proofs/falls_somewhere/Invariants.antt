@@ -1,13 +1,10 @@
 -- `pairs::falls_somewhere` meets its contract: where nothing fell yet, the places below i are in order.
 -- Assumes nothing.
 use Prim.Native.Nat.{◌≤◌, ◌-◌}
-use mathlib.Core.Path.{◌≡◌, sym, ◌∙◌}
+use mathlib.Core.Path.{◌≡◌}
 use mathlib.Core.Bool.{false}
-use native.Mathlib.Omega.{arith}
 use lib.ListN.{length}
-use Rattle.tree.proofs.AcceptLaws.{neither}
-use Rattle.pairs.proofs.PairLaws.{OrderedBelow, order_first, order_next}
-use borrow.Author.Rules.{rules}
+use Rattle.pairs.proofs.PairLaws.{OrderedBelow}
 use Rattle.pairs.proofs.falls_somewhere.Given as goal
 
 abbrev pub invariant-loop-i : goal.invariant-loop-i

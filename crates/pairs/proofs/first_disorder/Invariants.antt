@@ -1,12 +1,9 @@
 -- `pairs::first_disorder` meets its contract: no place below i is out of order. Assumes nothing.
 use Prim.Native.Nat.{ℕ, ◌≤◌, ◌<◌, ◌-◌}
-use mathlib.Core.Path.{◌≡◌, sym, ◌∙◌}
+use mathlib.Core.Path.{◌≡◌}
 use mathlib.Core.Bool.{false}
 use lib.ListN.{length}
-use borrow.Author.Count.{below_more, below_none}
 use Rattle.tree.specs.Pairs.{out_of_order}
-use Rattle.tree.proofs.SearchLaws.{least_at, least_end}
-use borrow.Author.Rules.{rules}
 use Rattle.pairs.proofs.first_disorder.Given as goal
 
 abbrev pub invariant-loop-i : goal.invariant-loop-i

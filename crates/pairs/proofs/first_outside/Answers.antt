@@ -1,14 +1,8 @@
 -- `pairs::first_outside` meets its contract: every row below place i is below the count. Assumes nothing.
-use Prim.Native.Nat.{ℕ, ◌≤◌, ◌<◌, ◌-◌}
-use mathlib.Core.Path.{◌≡◌, sym, ap}
-use mathlib.Core.Bool.{false, not}
-use lib.Dec.{ltb}
-use lib.ListN.{length}
-use borrow.Author.Count.{below_more, below_none}
-use borrow.Author.Tests.{lt-ltb, le-ltb}
-use Rattle.tree.specs.Table.{at}
+use mathlib.Core.Path.{sym, ap}
+use mathlib.Core.Bool.{not}
+use borrow.Author.Tests.{le-ltb}
 use Rattle.tree.proofs.SearchLaws.{least_at, least_end}
-use borrow.Author.Rules.{rules}
 use Rattle.pairs.proofs.first_outside.Goals as goal
 
 pub returns-then-count-row : goal.returns-then-count-row

@@ -1,14 +1,10 @@
 -- `pairs::first_outside` meets its contract: every row below place i is below the count. Assumes nothing.
 use Prim.Native.Nat.{ℕ, ◌≤◌, ◌<◌, ◌-◌}
-use mathlib.Core.Path.{◌≡◌, sym, ap}
+use mathlib.Core.Path.{◌≡◌}
 use mathlib.Core.Bool.{false, not}
 use lib.Dec.{ltb}
 use lib.ListN.{length}
-use borrow.Author.Count.{below_more, below_none}
-use borrow.Author.Tests.{lt-ltb, le-ltb}
 use Rattle.tree.specs.Table.{at}
-use Rattle.tree.proofs.SearchLaws.{least_at, least_end}
-use borrow.Author.Rules.{rules}
 use Rattle.pairs.proofs.first_outside.Given as goal
 
 abbrev pub invariant-loop-i : goal.invariant-loop-i

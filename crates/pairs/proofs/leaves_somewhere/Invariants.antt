@@ -1,15 +1,10 @@
 -- `pairs::leaves_somewhere` meets its contract: where none was outside yet, the rows below place i are inside.
 -- Assumes nothing.
 use Prim.Native.Nat.{ℕ, ◌≤◌, ◌<◌, ◌-◌}
-use mathlib.Core.Path.{◌≡◌, sym, ◌∙◌}
+use mathlib.Core.Path.{◌≡◌}
 use mathlib.Core.Bool.{false}
-use native.Mathlib.Omega.{arith}
-use borrow.Author.Count.{below_more, below_none}
-use borrow.Author.Tests.{leb-false}
 use lib.ListN.{length}
 use Rattle.tree.specs.Table.{at}
-use Rattle.tree.proofs.AcceptLaws.{neither}
-use borrow.Author.Rules.{rules}
 use Rattle.pairs.proofs.leaves_somewhere.Given as goal
 
 abbrev pub invariant-loop-i : goal.invariant-loop-i

@@ -1,7 +1,6 @@
 -- `pairs::out_of_order` meets its contract: the first pair has none before it. Assumes nothing.
 use borrow.Author.Tests.{eq-eqb, ne_eqb}
 use Rattle.tree.specs.Pairs.{out_of_order}
-use borrow.Author.Rules.{rules}
 use Rattle.pairs.proofs.out_of_order.Goals as goal
 
 pub returns-then-i-eq0 : goal.returns-then-i-eq0

@@ -1,10 +1,8 @@
 -- `pairs_left::count_left` meets its contract: the rows before place i that stay are counted. Assumes nothing.
-use Prim.Native.Nat.{ℕ, ◌+◌, ◌≤◌, ◌-◌}
-use mathlib.Core.Path.{◌≡◌, sym, ap₂, ◌∙◌}
+use Prim.Native.Nat.{ℕ, ◌+◌}
+use mathlib.Core.Path.{sym, ap₂, ◌∙◌}
 use native.Mathlib.Omega.{arith}
-use lib.ListN.{length, take}
-use Rattle.pairs_left.specs.Left.{left_of}
-use Rattle.pairs_left.proofs.StayLaws.{left_none, left_next, left_all, left_whole}
+use Rattle.pairs_left.proofs.StayLaws.{left_none, left_next, left_whole}
 use borrow.Author.Rules.{rules}
 use Rattle.pairs_left.proofs.count_left.Goals as goal
 

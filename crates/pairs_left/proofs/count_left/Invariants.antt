@@ -1,11 +1,8 @@
 -- `pairs_left::count_left` meets its contract: the rows before place i that stay are counted. Assumes nothing.
-use Prim.Native.Nat.{ℕ, ◌+◌, ◌≤◌, ◌-◌}
-use mathlib.Core.Path.{◌≡◌, sym, ap₂, ◌∙◌}
-use native.Mathlib.Omega.{arith}
+use Prim.Native.Nat.{◌≤◌, ◌-◌}
+use mathlib.Core.Path.{◌≡◌}
 use lib.ListN.{length, take}
 use Rattle.pairs_left.specs.Left.{left_of}
-use Rattle.pairs_left.proofs.StayLaws.{left_none, left_next, left_all, left_whole}
-use borrow.Author.Rules.{rules}
 use Rattle.pairs_left.proofs.count_left.Given as goal
 
 abbrev pub invariant-loop-i : goal.invariant-loop-i

@@ -1,6 +1,5 @@
 -- `pairs_left::put_four` meets its contract: each pair is written behind the one before it. Assumes nothing.
 use Rattle.pairs_left.proofs.WriteLaws.{put_more}
-use borrow.Author.Rules.{rules}
 use Rattle.pairs_left.proofs.put_four.Goals as goal
 
 pub returns : goal.returns

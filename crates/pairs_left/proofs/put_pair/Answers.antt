@@ -4,7 +4,6 @@ use native.Mathlib.Omega.{arith}
 use mir.Syntax.{w64}
 use mir.Facts.{to_z-of_z}
 use Rattle.pairs_left.proofs.WriteLaws.{put_one}
-use borrow.Author.Rules.{rules}
 use Rattle.pairs_left.proofs.put_pair.Goals as goal
 
 pub returns : goal.returns

@@ -1,13 +1,6 @@
 -- `pairs_left::write_all` meets its contract: as `write_left`, with each pair at its own place. Assumes nothing.
 use Prim.Native.Nat.{◌-◌}
-use mathlib.Core.Path.{sym, ◌∙◌}
-use native.Mathlib.Omega.{arith}
-use mir.Syntax.{w64}
-use mir.Facts.{to_z-of_z}
-use Rattle.pairs_left.proofs.StayLaws.{each_stays}
 use Rattle.pairs_left.specs.Left.{Writing}
-use Rattle.pairs_left.proofs.WriteLaws.{writing_none, writing_reads, writing_room, writing_more, writing_done}
-use borrow.Author.Rules.{rules}
 use Rattle.pairs_left.proofs.write_all.Given as goal
 
 abbrev pub invariant-loop-i : goal.invariant-loop-i

@@ -1,9 +1,7 @@
 -- `pairs_left::write_fours` meets its contract: as `write_left`, four pairs a turn. Assumes nothing.
 use Prim.Native.Nat.{◌-◌}
-use native.Mathlib.Omega.{arith}
 use lib.ListN.{length}
 use Rattle.pairs_left.specs.Left.{Writing}
-use Rattle.pairs_left.proofs.WriteLaws.{writing_none, writing_most, writing_ahead, writing_fits, writing_puts}
 use Rattle.pairs_left.proofs.write_fours.Given as goal
 
 abbrev pub invariant-loop-n : goal.invariant-loop-n

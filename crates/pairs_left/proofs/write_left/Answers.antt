@@ -1,11 +1,7 @@
 -- `pairs_left::write_left` meets its contract: the pairs before place i that stay stand in front of the result
 -- columns, and nothing behind the first `left` results is changed. The loop's invariant cannot name the columns as they
 -- were before the fours, so it says this against any columns against which it held before the loop. Assumes nothing.
-use Prim.Native.Nat.{ℕ, ◌-◌}
-use mathlib.Core.List.{List}
 use native.Mathlib.Omega.{arith}
-use lib.ListN.{length}
-use Rattle.pairs_left.specs.Left.{Ready, Writing}
 use Rattle.pairs_left.proofs.WriteLaws.{writing_ahead, writing_fits, writing_puts, writing_done}
 use Rattle.pairs_left.proofs.write_left.Goals as goal
 

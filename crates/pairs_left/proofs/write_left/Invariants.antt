@@ -3,10 +3,8 @@
 -- were before the fours, so it says this against any columns against which it held before the loop. Assumes nothing.
 use Prim.Native.Nat.{ℕ, ◌-◌}
 use mathlib.Core.List.{List}
-use native.Mathlib.Omega.{arith}
 use lib.ListN.{length}
 use Rattle.pairs_left.specs.Left.{Ready, Writing}
-use Rattle.pairs_left.proofs.WriteLaws.{writing_ahead, writing_fits, writing_puts, writing_done}
 use Rattle.pairs_left.proofs.write_left.Given as goal
 
 abbrev pub invariant-loop-n : goal.invariant-loop-n

@@ -1,11 +1,10 @@
 -- `piece::bad_piece` meets its contract. Assumes nothing.
 use mathlib.Core.Path.{◌≡◌, sym, ◌∙◌}
 use native.Mathlib.Omega.{arith}
-use Rattle.tree.specs.Table.{Table, table_of}
+use Rattle.tree.specs.Table.{table_of}
 use Rattle.tree.specs.Outcome.{check_outcome}
 use Rattle.tree.specs.declared.Checked.TheVariants.{Passed}
 use Rattle.piece.proofs.PieceLaws.{piece_refused, piece_passed, piece_rows}
-use borrow.Author.Rules.{rules}
 use Rattle.piece.proofs.bad_piece.Goals as goal
 use Rattle.piece.proofs.bad_piece.Goals.{In_default, Start}
 

@@ -12,7 +12,6 @@ use Rattle.tree.specs.declared.Checked.TheVariants.{Refused}
 use Rattle.piece.proofs.PieceLaws.{deep, taken, piece_sound, refused_bad, refused_parent, refused_deep}
 use Rattle.piece.proofs.PieceLaws.{refused_taken}
 use Rattle.piece.proofs.PieceLaws.{refused_full, passed_all}
-use borrow.Author.Rules.{rules}
 use Rattle.piece.proofs.check_piece.Goals as goal
 use Rattle.piece.proofs.check_piece.Goals.{Else-bad_piece, Else-clash-p_count, Else-too_deep, Start}
 

@@ -1,14 +1,6 @@
 -- `piece::too_deep` meets its contract: no level below i is too deep. Assumes nothing.
-use Prim.Native.Nat.{ℕ, ◌+◌, ◌-◌, ◌<◌, ◌≤◌}
-use mathlib.Core.Path.{◌≡◌}
-use mathlib.Core.Bool.{false}
-use native.Mathlib.Omega.{arith}
-use lib.Dec.{ltb}
-use borrow.Author.Count.{below_more, below_none}
-use borrow.Author.Tests.{lt-ltb, le-ltb}
-use Rattle.tree.specs.Table.{at}
+use borrow.Author.Tests.{lt-ltb}
 use Rattle.piece.proofs.PieceLaws.{some_at, some_none}
-use borrow.Author.Rules.{rules}
 use Rattle.piece.proofs.too_deep.Goals as goal
 
 pub returns-then-level-i-gt63 : goal.returns-then-level-i-gt63

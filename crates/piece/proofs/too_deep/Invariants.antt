@@ -2,13 +2,8 @@
 use Prim.Native.Nat.{ℕ, ◌+◌, ◌-◌, ◌<◌, ◌≤◌}
 use mathlib.Core.Path.{◌≡◌}
 use mathlib.Core.Bool.{false}
-use native.Mathlib.Omega.{arith}
 use lib.Dec.{ltb}
-use borrow.Author.Count.{below_more, below_none}
-use borrow.Author.Tests.{lt-ltb, le-ltb}
 use Rattle.tree.specs.Table.{at}
-use Rattle.piece.proofs.PieceLaws.{some_at, some_none}
-use borrow.Author.Rules.{rules}
 use Rattle.piece.proofs.too_deep.Given as goal
 
 abbrev pub invariant-loop-i : goal.invariant-loop-i

@@ -4,7 +4,6 @@ use native.Mathlib.Omega.{arith}
 use Rattle.tree.specs.Table.{Table, table_of}
 use Rattle.edit_at.proofs.FoundLaws.{found_stands}
 use Rattle.planting.proofs.InsertLaws.{Room, room, insert_made}
-use borrow.Author.Rules.{rules}
 use Rattle.planting.proofs.open_rows.Goals as goal
 use Rattle.planting.proofs.open_rows.Goals.{After-row_there-row, Start}
 

@@ -1,11 +1,7 @@
 -- `preceding::next_open` meets its contract. The invariant: the rows from w on, and before v, have ended before row
 -- c. Assumes nothing.
-use Prim.Native.Nat.{◌+◌, ◌-◌, ◌<◌, ◌≤◌}
-use native.Mathlib.Omega.{arith}
-use borrow.Author.Rules.{rules}
-use lib.ListN.{length}
-use Rattle.tree.specs.Table.{at}
-use Rattle.scan.proofs.SideLaws.{PassedOver, passed_start, passed_next, passed_stop}
+use Prim.Native.Nat.{◌-◌}
+use Rattle.scan.proofs.SideLaws.{PassedOver}
 use Rattle.preceding.proofs.next_open.Given as goal
 
 abbrev pub invariant-loop-v : goal.invariant-loop-v

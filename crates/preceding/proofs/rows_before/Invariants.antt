@@ -1,15 +1,9 @@
 -- `preceding::rows_before` meets its contract. The invariants: the trees of the contexts before number i are done;
 -- in the tree that is being written, the rows below w are written. Assumes nothing.
 use Prim.Native.Nat.{◌-◌}
-use native.Mathlib.Omega.{arith}
-use borrow.Author.Rules.{rules}
 use lib.ListN.{length}
 use Rattle.scan.specs.Want.{fits}
-use Rattle.scan.proofs.RangeLaws.{cover_length}
-use Rattle.scan.proofs.SideLaws.{nests}
-use Rattle.scan.proofs.TreeContextLaws.{root_in, turn_less}
-use Rattle.preceding.proofs.BeforeLaws.{Behind, Within, before_start, before_tree, last_in_lem, before_asks}
-use Rattle.preceding.proofs.BeforeLaws.{before_next, before_turn, before_done}
+use Rattle.preceding.proofs.BeforeLaws.{Behind, Within}
 use Rattle.preceding.proofs.rows_before.Given as goal
 
 abbrev pub invariant-loop-w : goal.invariant-loop-w

@@ -1,10 +1,9 @@
 -- `reach_c::reach_find` meets its contract: the library's answer, put into C's struct. Assumes nothing.
-use mathlib.Core.Path.{sym, ap, subst, ◌∙◌}
+use mathlib.Core.Path.{sym, subst}
 use Prim.Native.Nat.{◌≤◌}
 use Rattle.tree.specs.declared.Found.{Found}
-use Rattle.answer.specs.Found.{parent_found, find_answer}
+use Rattle.answer.specs.Found.{parent_found}
 use Rattle.reach_c.proofs.FindAnswerLaws.{parent_small}
-use borrow.Author.Rules.{rules}
 use Rattle.reach_c.proofs.reach_find.Goals as goal
 
 pub of_find-requires : goal.of_find-requires

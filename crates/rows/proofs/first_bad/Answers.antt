@@ -1,11 +1,9 @@
 -- `rows::first_bad` meets its contract: the pass says that there is none, or the least row that fails one of two tests
 -- is the smaller of the two leasts. Assumes nothing.
-use mathlib.Core.Path.{sym}
 use Rattle.tree.proofs.SearchLaws.{least_both}
 use Rattle.rows.specs.FirstBad.{first_bad_beside_key}
 use Rattle.keys.specs.FirstKey.{first_key}
 use Rattle.tree.specs.Sound.{first_bad, row_ok}
-use borrow.Author.Rules.{rules}
 use Rattle.rows.proofs.first_bad.Goals as goal
 
 pub returns : goal.returns

@@ -1,7 +1,7 @@
 -- `rows::first_bad_in` meets its contract: the pass says that there is none, or the least row that fails one of two
 -- tests is the smaller of the two leasts. Then the search of the keys has chained all rows, if it found none. Assumes
 -- nothing.
-use mathlib.Core.Path.{◌≡◌, sym, subst}
+use mathlib.Core.Path.{◌≡◌, subst}
 use mathlib.Core.List.{List}
 use Prim.Native.Nat.{ℕ, ◌≤◌, min}
 use native.Mathlib.Omega.{arith}

@@ -1,6 +1,5 @@
 -- `rows::shortest` meets its contract: the smaller of two, four times. Assumes nothing.
 use Rattle.tree.specs.Table.{shortest}
-use borrow.Author.Rules.{rules}
 use Rattle.rows.proofs.shortest.Goals as goal
 
 pub returns : goal.returns

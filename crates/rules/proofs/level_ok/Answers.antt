@@ -4,7 +4,6 @@ use native.Mathlib.Omega.{arith}
 use lib.ListN.{get_or}
 use borrow.Author.Tests.{ne_eqb, eq-eqb, le-leb, lt-leb}
 use Rattle.tree.specs.Sound.{level_ok}
-use borrow.Author.Rules.{rules}
 use Rattle.rules.proofs.level_ok.Goals as goal
 
 pub returns-then-i-eq0 : goal.returns-then-i-eq0

@@ -1,14 +1,8 @@
 -- `rules::run` meets its contract. The invariant: every level below place k is above top. Assumes nothing.
-use Prim.Native.Nat.{ℕ, ◌≤◌, ◌<◌, ◌-◌}
-use mathlib.Core.Path.{◌≡◌, sym}
-use mathlib.Core.Bool.{false}
-use lib.Dec.{leb}
-use lib.ListN.{length, get_or}
-use borrow.Author.Count.{below_more, below_none}
-use borrow.Author.Tests.{le-leb, lt-leb}
+use mathlib.Core.Path.{sym}
+use borrow.Author.Tests.{le-leb}
 use Rattle.tree.proofs.SearchLaws.{least_at, least_end}
 use Rattle.tree.specs.Sound.{run_of}
-use borrow.Author.Rules.{rules}
 use Rattle.rules.proofs.run.Goals as goal
 
 pub returns-then-part-k : goal.returns-then-part-k

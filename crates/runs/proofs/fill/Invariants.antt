@@ -1,12 +1,8 @@
 -- `runs::fill` meets its contract. The first i places hold v. Assumes nothing.
 use Prim.Native.Nat.{◌-◌, ◌≤◌}
-use mathlib.Core.Path.{◌≡◌, refl}
-use native.Mathlib.Nat.{le_antisymm}
-use native.Mathlib.Omega.{arith}
-use lib.ListN.{length, replicate, length-set, length-replicate, replicate-append-replicate}
+use mathlib.Core.Path.{◌≡◌}
+use lib.ListN.{length, replicate}
 use Rattle.scan.specs.OneRole.{Wrote}
-use Rattle.scan.proofs.WroteLaws.{wrote_as, wrote_none, wrote_more}
-use borrow.Author.Rules.{rules}
 use Rattle.runs.proofs.fill.Given as goal
 
 abbrev pub invariant-loop-i : goal.invariant-loop-i

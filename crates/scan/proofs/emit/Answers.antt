@@ -3,7 +3,6 @@
 use mathlib.Core.Path.{refl}
 use Prim.Native.Nat.{◌<◌, ◌^◌}
 use native.Mathlib.Omega.{arith}
-use borrow.Author.Rules.{rules}
 use Rattle.scan.proofs.WantLaws.{fits_part, fits_part_kind, fits_any}
 use Rattle.scan.proofs.ScanLaws.{range_asks, range_gives, part_length}
 use Rattle.scan.proofs.emit.Goals as goal

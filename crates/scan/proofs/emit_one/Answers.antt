@@ -1,7 +1,6 @@
 -- `scan::emit_one` meets its contract: the range is empty, or its one row fits or does not.
 -- Assumes nothing.
 use mathlib.Core.Path.{sym, ◌∙◌}
-use borrow.Author.Rules.{rules}
 use Rattle.scan.proofs.ScanLaws.{one_none, one_no, one_room, one_yes}
 use Rattle.scan.proofs.emit_one.Goals as goal
 

@@ -1,12 +1,11 @@
 -- `scan::number_rows` meets its contract. The invariant: the first i rows are appended.
 -- Assumes nothing.
 use mathlib.Core.Path.{refl}
-use mathlib.Core.Bool.{true}
-use Prim.Native.Nat.{◌-◌, ◌<◌}
+use Prim.Native.Nat.{◌<◌}
 use native.Mathlib.Omega.{arith}
 use borrow.Author.Rules.{rules}
 use lib.ListN.{length}
-use Rattle.scan.proofs.ScanLaws.{Scanning, scan_start, scan_length, scan_index, scan_yes, scan_done}
+use Rattle.scan.proofs.ScanLaws.{scan_start, scan_length, scan_index, scan_yes}
 use Rattle.scan.proofs.number_rows.Goals as goal
 use Rattle.scan.proofs.number_rows.Goals.{In-loop-i}
 

@@ -1,12 +1,8 @@
 -- `scan::number_rows` meets its contract. The invariant: the first i rows are appended.
 -- Assumes nothing.
-use mathlib.Core.Path.{refl}
 use mathlib.Core.Bool.{true}
-use Prim.Native.Nat.{◌-◌, ◌<◌}
-use native.Mathlib.Omega.{arith}
-use borrow.Author.Rules.{rules}
-use lib.ListN.{length}
-use Rattle.scan.proofs.ScanLaws.{Scanning, scan_start, scan_length, scan_index, scan_yes, scan_done}
+use Prim.Native.Nat.{◌-◌}
+use Rattle.scan.proofs.ScanLaws.{Scanning}
 use Rattle.scan.proofs.number_rows.Given as goal
 
 abbrev pub invariant-loop-i : goal.invariant-loop-i

@@ -1,16 +1,7 @@
 -- `scan::past_tree` meets its contract. The invariant: the contexts of numbers i to j are before row end, and
 -- the last one is not. Assumes nothing.
-use mathlib.Core.Path.{◌≡◌, ap}
-use mathlib.Core.Logic.{⊎_elim}
-use mathlib.Core.List.{List}
-use Prim.Native.Nat.{ℕ, ◌+◌, ◌-◌, ◌<◌, ◌≤◌}
-use native.Mathlib.Nat.{le_refl, eq-or-lt_of_le}
-use native.Mathlib.Omega.{arith}
-use borrow.Author.Rules.{rules}
-use lib.ListN.{length}
+use Prim.Native.Nat.{ℕ, ◌-◌, ◌<◌, ◌≤◌}
 use Rattle.tree.specs.Table.{at}
-use Rattle.tree.proofs.TreeLaws.{less?}
-use Rattle.scan.specs.Range.{ContextIn}
 use Rattle.scan.proofs.past_tree.Given as goal
 
 abbrev pub invariant-loop-j : goal.invariant-loop-j

@@ -1,15 +1,12 @@
 -- `scan::scan_kind` meets its contract. The invariant: the first i rows that pass are appended.
 -- Assumes nothing.
 use mathlib.Core.Path.{◌≡◌}
-use mathlib.Core.Logic.{⊎_elim}
-use Prim.Native.Nat.{◌-◌, ◌<◌}
+use Prim.Native.Nat.{◌<◌}
 use native.Mathlib.Omega.{arith}
 use borrow.Author.Rules.{rules}
 use borrow.Author.Tests.{eq-eqb, ne_eqb}
-use lib.Dec.{eqb}
 use lib.ListN.{length}
-use Rattle.tree.specs.Table.{at}
-use Rattle.scan.proofs.ScanLaws.{Scanning, scan_start, scan_length, scan_index, scan_yes, scan_no, scan_done}
+use Rattle.scan.proofs.ScanLaws.{scan_start, scan_length, scan_index, scan_yes, scan_no}
 use Rattle.scan.proofs.scan_kind.Goals as goal
 use Rattle.scan.proofs.scan_kind.Goals.{At-loop-i, Then-kind-i, else-kind-i, then-kind-i}
 

@@ -1,13 +1,11 @@
 -- `scan::scan_named` meets its contract. The invariant: the first i rows that fit are appended.
 -- Assumes nothing.
 use mathlib.Core.Path.{◌≡◌, sym, ◌∙◌}
-use mathlib.Core.Logic.{⊎_elim}
-use Prim.Native.Nat.{◌-◌, ◌<◌}
+use Prim.Native.Nat.{◌<◌}
 use native.Mathlib.Omega.{arith}
 use borrow.Author.Rules.{rules}
 use lib.ListN.{length}
-use Rattle.scan.specs.Want.{fits}
-use Rattle.scan.proofs.ScanLaws.{Scanning, scan_start, scan_length, scan_index, scan_yes, scan_no, scan_done}
+use Rattle.scan.proofs.ScanLaws.{scan_start, scan_length, scan_index, scan_yes, scan_no}
 use Rattle.scan.proofs.scan_named.Goals as goal
 use Rattle.scan.proofs.scan_named.Goals.{At-loop-i, Then-fits_row, else-fits_row, then-fits_row}
 

@@ -1,13 +1,9 @@
 -- `scan::scan_named` meets its contract. The invariant: the first i rows that fit are appended.
 -- Assumes nothing.
-use mathlib.Core.Path.{◌≡◌, sym, ◌∙◌}
-use mathlib.Core.Logic.{⊎_elim}
-use Prim.Native.Nat.{◌-◌, ◌<◌}
-use native.Mathlib.Omega.{arith}
-use borrow.Author.Rules.{rules}
+use Prim.Native.Nat.{◌-◌}
 use lib.ListN.{length}
 use Rattle.scan.specs.Want.{fits}
-use Rattle.scan.proofs.ScanLaws.{Scanning, scan_start, scan_length, scan_index, scan_yes, scan_no, scan_done}
+use Rattle.scan.proofs.ScanLaws.{Scanning}
 use Rattle.scan.proofs.scan_named.Given as goal
 
 abbrev pub invariant-loop-i : goal.invariant-loop-i

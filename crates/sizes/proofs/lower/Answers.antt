@@ -3,7 +3,6 @@ use mathlib.Core.Path.{◌∙◌}
 use Prim.Native.Nat.{◌-◌}
 use native.Mathlib.Omega.{arith}
 use Rattle.sizes.proofs.StandsLaws.{child_resizable, child_resized}
-use borrow.Author.Rules.{rules}
 use Rattle.sizes.proofs.lower.Goals as goal
 
 pub resize_up-requires : goal.resize_up-requires

@@ -10,7 +10,6 @@ use Rattle.tree.specs.declared.Located.TheVariants.{Root, Under}
 use Rattle.sizes.specs.Upward.{Stands}
 use Rattle.sizes.proofs.StandsLaws.{row_asks, root_raised}
 use Rattle.sizes.proofs.StandsLaws.{child_resizable, child_resized, child_asks, child_raised}
-use borrow.Author.Rules.{rules}
 use Rattle.sizes.proofs.raise.Goals as goal
 use Rattle.sizes.proofs.raise.Goals.{After-resize_up, Start}
 

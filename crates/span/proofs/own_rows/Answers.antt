@@ -1,12 +1,7 @@
 -- `span::own_rows` meets its contract. The invariant: the rows reached below pos are written, and the first i
 -- contexts are below pos. Assumes nothing.
-use Prim.Native.Nat.{◌-◌}
 use native.Mathlib.Omega.{arith}
-use borrow.Author.Rules.{rules}
-use lib.ListN.{length}
-use Rattle.scan.specs.Want.{fits}
-use Rattle.scan.proofs.RangeLaws.{cover_length}
-use Rattle.span.proofs.SpanLaws.{Spans, self_spans, Turning, turn_start, turn_asks, turn_next, turn_done}
+use Rattle.span.proofs.SpanLaws.{Spans, self_spans, turn_start, turn_asks, turn_next, turn_done}
 use Rattle.span.proofs.own_rows.Goals as goal
 use Rattle.span.proofs.own_rows.Goals.{Start}
 

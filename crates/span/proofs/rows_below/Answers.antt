@@ -2,13 +2,10 @@
 -- of the first i contexts are below pos. Assumes nothing.
 use Prim.Native.Nat.{◌+◌, ◌-◌, ◌<◌, ◌≤◌}
 use native.Mathlib.Omega.{arith}
-use borrow.Author.Rules.{rules}
 use lib.ListN.{length}
 use Rattle.tree.specs.Table.{at}
 use Rattle.tree.proofs.SoundLaws.{shape_fits}
-use Rattle.scan.specs.Want.{fits}
-use Rattle.scan.proofs.RangeLaws.{cover_length}
-use Rattle.span.proofs.SpanLaws.{Spans, below_spans, Turning, turn_start, turn_asks, turn_next, turn_done}
+use Rattle.span.proofs.SpanLaws.{Spans, below_spans, turn_start, turn_asks, turn_next, turn_done}
 use Rattle.span.proofs.rows_below.Goals as goal
 use Rattle.span.proofs.rows_below.Goals.{In-loop-i, Start}
 

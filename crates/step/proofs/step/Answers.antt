@@ -1,7 +1,6 @@
 -- `step::step` meets its contract: a call that the checks refuse leaves everything, any other goes on. Assumes nothing.
 use mathlib.Core.Path.{sym, ◌∙◌}
 use Rattle.step.proofs.StepLeavesLaws.{leaves_refused, call_known}
-use borrow.Author.Rules.{rules}
 use Rattle.step.proofs.step.Goals as goal
 
 pub step_known-requires : goal.step_known-requires

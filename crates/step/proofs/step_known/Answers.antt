@@ -4,7 +4,6 @@ use Rattle.tree.specs.Refusal.{room_check}
 use Rattle.tree.proofs.SoundLaws.{sound_shape}
 use Rattle.links.proofs.RootedLaws.{up_zeros}
 use Rattle.step.proofs.StepLeavesLaws.{leaves_full, room_fits, leaves_listed}
-use borrow.Author.Rules.{rules}
 use Rattle.step.proofs.step_known.Goals as goal
 
 pub up_for-requires : goal.up_for-requires

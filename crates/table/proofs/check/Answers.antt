@@ -1,12 +1,9 @@
 -- `table::check` meets its contract: each refusal is given exactly when its test says. Assumes nothing.
-use borrow.Author.Tests.{not-true, not-false, lt-ltb, le-ltb}
+use borrow.Author.Tests.{lt-ltb, le-ltb}
 use mathlib.Core.Path.{sym, ◌∙◌}
 use Rattle.tree.specs.Refusal.{given, next, table_check}
 use Rattle.tree.specs.Outcome.{check_outcome}
 use Rattle.tree.proofs.SoundLaws.{count_ok_lem}
-use borrow.Author.Rules.{rules}
-use mathlib.Core.Path.{ap}
-use mathlib.Core.Bool.{not}
 use Rattle.table.proofs.check.Goals as goal
 
 pub returns-then-not-count_ok : goal.returns-then-not-count_ok

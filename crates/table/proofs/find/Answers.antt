@@ -3,7 +3,6 @@
 use mathlib.Core.Path.{sym, ◌∙◌}
 use Rattle.tree.specs.Outcome.{check_outcome, find_outcome, found_if}
 use Rattle.tree.proofs.SoundLaws.{table_passes}
-use borrow.Author.Rules.{rules}
 use Rattle.table.proofs.find.Goals as goal
 
 pub locate-requires : goal.locate-requires

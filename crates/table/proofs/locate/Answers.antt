@@ -6,7 +6,6 @@ use Rattle.tree.specs.Outcome.{located}
 use Rattle.tree.specs.declared.Found.TheVariants.{At}
 use Rattle.tree.proofs.SoundLaws.{sound_shape}
 use Rattle.tree.proofs.LevelLaws.{has_parent}
-use borrow.Author.Rules.{rules}
 use Rattle.table.proofs.locate.Goals as goal
 
 pub where_is-requires : goal.where_is-requires

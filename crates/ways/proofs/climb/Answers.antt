@@ -1,14 +1,11 @@
 -- `ways::climb` meets its contract. The loop's invariant, `Climbed`: the rows met are appended, and the others
 -- are those of the way up from `at`. Assumes nothing.
 use Prim.Native.Nat.{◌-◌, ◌<◌}
-use mathlib.Core.Path.{◌≡◌, sym, ◌∙◌}
-use mathlib.Core.Logic.{⊎_elim}
+use mathlib.Core.Path.{sym, ◌∙◌}
 use native.Mathlib.Omega.{arith}
-use borrow.Author.Rules.{rules}
 use lib.ListN.{length}
-use Rattle.scan.specs.Want.{fits}
-use Rattle.ways.proofs.ClimbLaws.{Climbed, climb_start, climb_yes, climb_no, climb_less, climb_done}
-use Rattle.ways.proofs.ClimbLaws.{climb_room, climb_length}
+use Rattle.ways.proofs.ClimbLaws.{climb_start, climb_yes, climb_no, climb_less, climb_done}
+use Rattle.ways.proofs.ClimbLaws.{climb_room}
 use Rattle.ways.proofs.climb.Goals as goal
 use Rattle.ways.proofs.climb.Goals.{At-loop-link, Then-fits_row, else-fits_row, then-fits_row}
 

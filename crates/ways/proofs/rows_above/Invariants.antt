@@ -1,13 +1,9 @@
 -- `ways::rows_above` meets its contract. The invariant, `Ascent`: the rows reached below the floor are
 -- written, the rows of the first i contexts are below it, and it is not past the others. Assumes nothing.
-use Prim.Native.Nat.{◌-◌, ◌<◌, ◌≤◌}
-use native.Mathlib.Omega.{arith}
-use borrow.Author.Rules.{rules}
+use Prim.Native.Nat.{◌-◌}
 use lib.ListN.{length}
-use Rattle.tree.specs.Table.{at}
 use Rattle.scan.specs.Want.{fits}
-use Rattle.scan.proofs.RangeLaws.{cover_length}
-use Rattle.ways.proofs.AboveLaws.{Ascent, ascent_start, ascent_asks, ascent_next, ascent_done}
+use Rattle.ways.proofs.AboveLaws.{Ascent}
 use Rattle.ways.proofs.rows_above.Given as goal
 
 abbrev pub invariant-loop-i : goal.invariant-loop-i

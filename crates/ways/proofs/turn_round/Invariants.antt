@@ -1,10 +1,6 @@
 -- `ways::turn_round` meets its contract. The loop's invariant, `Round`: the first i entries and those from j on
 -- are turned, the others are not. Assumes nothing.
-use Prim.Native.Nat.{◌-◌}
-use native.Mathlib.Omega.{arith}
-use borrow.Author.Rules.{rules}
-use lib.ListN.{length-set}
-use Rattle.ways.proofs.ReverseLaws.{Round, round_start, round_next, round_done}
+use Rattle.ways.proofs.ReverseLaws.{Round}
 use Rattle.ways.proofs.turn_round.Given as goal
 
 abbrev pub invariant-loop-i : goal.invariant-loop-i

@@ -1,5 +1,4 @@
 -- `ways::way_start` meets its contract: the column has the parent. Assumes nothing.
-use borrow.Author.Rules.{rules}
 use borrow.Author.Tests.{eq-eqb, ne_eqb}
 use Rattle.ways.specs.Above.{way_start}
 use Rattle.ways.proofs.way_start.Goals as goal

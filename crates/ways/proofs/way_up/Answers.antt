@@ -1,7 +1,5 @@
 -- `ways::way_up` meets its contract: what `climb` appended, turned round. Assumes nothing.
-use Rattle.ways.proofs.ClimbLaws.{climb_end}
 use Rattle.ways.proofs.ReverseLaws.{appended_turned}
-use borrow.Author.Rules.{rules}
 use Rattle.ways.proofs.way_up.Goals as goal
 
 pub returns : goal.returns

@@ -1,9 +1,6 @@
 -- `direct::children::append_children` meets its contract. The loop's invariant: the children before row w that fit are
 -- appended, and w is the next child, or the end. Assumes nothing.
-use Prim.Native.Nat.{◌-◌}
-use native.Mathlib.Omega.{arith}
-use Rattle.scan.specs.Want.{fits}
-use Rattle.direct.proofs.ChildRowLaws.{Walked, walk_start, walk_length, walk_asks, walk_on, walk_done}
+use Rattle.direct.proofs.ChildRowLaws.{walk_start, walk_asks, walk_on}
 use Rattle.direct.proofs.children.append_children.Goals as goal
 
 pub loop-w-init : goal.loop-w-init

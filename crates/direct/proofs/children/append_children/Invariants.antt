@@ -1,9 +1,8 @@
 -- `direct::children::append_children` meets its contract. The loop's invariant: the children before row w that fit are
 -- appended, and w is the next child, or the end. Assumes nothing.
 use Prim.Native.Nat.{◌-◌}
-use native.Mathlib.Omega.{arith}
 use Rattle.scan.specs.Want.{fits}
-use Rattle.direct.proofs.ChildRowLaws.{Walked, walk_start, walk_length, walk_asks, walk_on, walk_done}
+use Rattle.direct.proofs.ChildRowLaws.{Walked}
 use Rattle.direct.proofs.children.append_children.Given as goal
 
 abbrev pub invariant-loop-w : goal.invariant-loop-w

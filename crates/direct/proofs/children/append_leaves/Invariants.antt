@@ -1,14 +1,8 @@
 -- `direct::children::append_leaves` meets its contract. The loop's invariant: the children before row w that fit are
 -- appended, and w is not before the row at which it began. Assumes nothing.
-use Prim.Native.Nat.{ℕ, ◌+◌, ◌-◌, ◌<◌}
-use mathlib.Core.Path.{◌≡◌, refl, sym, ◌∙◌}
-use mathlib.Core.Logic.{⊎_elim}
-use native.Mathlib.Omega.{arith}
-use lib.ListN.{length}
-use Rattle.tree.specs.Table.{at}
-use Rattle.tree.proofs.SoundLaws.{shape_fits}
+use Prim.Native.Nat.{◌-◌}
 use Rattle.scan.specs.Want.{fits}
-use Rattle.direct.proofs.ChildRowLaws.{Walked, walk_row, walk_start, walk_length, walk_room, walk_no, walk_yes}
+use Rattle.direct.proofs.ChildRowLaws.{Walked}
 use Rattle.direct.proofs.children.append_leaves.Given as goal
 
 abbrev pub invariant-loop-w : goal.invariant-loop-w

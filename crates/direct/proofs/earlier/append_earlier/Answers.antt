@@ -2,8 +2,7 @@
 -- Assumes nothing.
 use mathlib.Core.Path.{refl}
 use native.Mathlib.Omega.{arith}
-use borrow.Author.Rules.{rules}
-use Rattle.direct.proofs.RisingLaws.{earlier_row, earlier_none, earlier_asks, earlier_done}
+use Rattle.direct.proofs.RisingLaws.{earlier_none, earlier_asks, earlier_done}
 use Rattle.direct.proofs.earlier.append_earlier.Goals as goal
 
 pub returns-then-q-eq0 : goal.returns-then-q-eq0

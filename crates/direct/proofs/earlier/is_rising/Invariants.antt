@@ -1,12 +1,7 @@
 -- `direct::earlier::is_rising` meets its contract. The loop's invariant: the parents of the contexts before number k do
 -- not fall, and the last of them is not before any. Assumes nothing.
-use Prim.Native.Nat.{ℕ, ◌+◌, ◌-◌, ◌<◌, ◌≤◌}
-use mathlib.Core.Path.{◌≡◌, ap}
-use mathlib.Core.Bool.{false≢true, true≢false}
-use native.Mathlib.Nat.{not-suc-le-zero}
-use native.Mathlib.Omega.{arith}
-use borrow.Author.Count.{below_more}
-use borrow.Author.Rules.{rules}
+use Prim.Native.Nat.{ℕ, ◌-◌, ◌<◌, ◌≤◌}
+use mathlib.Core.Path.{◌≡◌}
 use lib.ListN.{length}
 use Rattle.tree.specs.Table.{at}
 use Rattle.direct.proofs.earlier.is_rising.Given as goal

@@ -1,11 +1,6 @@
 -- `direct::earlier::rising_rows` meets its contract. The invariant, `Risen`: the rows reached below the floor, which is
 -- the last context passed, are written. Assumes nothing.
-use Prim.Native.Nat.{◌-◌}
-use borrow.Author.Rules.{rules}
-use lib.ListN.{length}
-use Rattle.scan.specs.Want.{fits}
-use Rattle.scan.proofs.RangeLaws.{cover_length}
-use Rattle.direct.proofs.RisingLaws.{Risen, rise_start, rise_asks, rise_next, rise_done}
+use Rattle.direct.proofs.RisingLaws.{rise_start, rise_asks, rise_next, rise_done}
 use Rattle.direct.proofs.earlier.rising_rows.Goals as goal
 
 pub loop-i-init : goal.loop-i-init

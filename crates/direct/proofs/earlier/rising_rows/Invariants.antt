@@ -1,11 +1,9 @@
 -- `direct::earlier::rising_rows` meets its contract. The invariant, `Risen`: the rows reached below the floor, which is
 -- the last context passed, are written. Assumes nothing.
 use Prim.Native.Nat.{◌-◌}
-use borrow.Author.Rules.{rules}
 use lib.ListN.{length}
 use Rattle.scan.specs.Want.{fits}
-use Rattle.scan.proofs.RangeLaws.{cover_length}
-use Rattle.direct.proofs.RisingLaws.{Risen, rise_start, rise_asks, rise_next, rise_done}
+use Rattle.direct.proofs.RisingLaws.{Risen}
 use Rattle.direct.proofs.earlier.rising_rows.Given as goal
 
 abbrev pub invariant-loop-i : goal.invariant-loop-i

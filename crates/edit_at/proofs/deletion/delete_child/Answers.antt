@@ -4,7 +4,6 @@ use native.Mathlib.Omega.{arith}
 use Rattle.tree.specs.Table.{Table, table_of}
 use Rattle.edit_at.proofs.FoundLaws.{found_stands}
 use Rattle.edit_at.proofs.DeleteLaws.{rows_fit, delete_made, low_in_use, child_passes, child_held}
-use borrow.Author.Rules.{rules}
 use Rattle.edit_at.proofs.deletion.delete_child.Goals as goal
 use Rattle.edit_at.proofs.deletion.delete_child.Goals.{Start}
 

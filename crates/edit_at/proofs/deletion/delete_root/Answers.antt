@@ -2,7 +2,6 @@
 use native.Mathlib.Omega.{arith}
 use Rattle.tree.specs.Table.{Table, table_of}
 use Rattle.edit_at.proofs.DeleteLaws.{rows_fit, delete_made, root_refused, root_passes, root_sizes}
-use borrow.Author.Rules.{rules}
 use Rattle.edit_at.proofs.deletion.delete_root.Goals as goal
 use Rattle.edit_at.proofs.deletion.delete_root.Goals.{Start}
 

@@ -6,7 +6,6 @@ use Rattle.tree.specs.Refusal.{rename_check}
 use Rattle.tree.proofs.SoundLaws.{given_not}
 use Rattle.edit_at.proofs.OutcomeLaws.{leaves, own_refused, own_passed}
 use Rattle.tree.proofs.FindLaws.{given_refused}
-use borrow.Author.Rules.{rules}
 use Rattle.edit_at.proofs.renaming.rename_row.Goals as goal
 use Rattle.edit_at.proofs.renaming.rename_row.Goals.{Start}
 

@@ -3,7 +3,6 @@ use mathlib.Core.Path.{ap, ◌∙◌}
 use mathlib.Core.Bool.{Bool, not, ◌||◌}
 use lib.Dec.{eqb}
 use Rattle.tree.specs.Sound.{has_name}
-use borrow.Author.Rules.{rules}
 use Rattle.edit_at.proofs.renaming.unfit.Goals as goal
 
 pub returns : goal.returns

@@ -1,7 +1,6 @@
 -- `marks::mark::children_of` meets its contract: the laws of the axis, over what `add-children` leaves. Assumes
 -- nothing.
 use native.Mathlib.Omega.{arith}
-use borrow.Author.Rules.{rules}
 use Rattle.marks.proofs.ContextLaws.{turn_fits}
 use Rattle.marks.proofs.ChildLaws.{children_asks, children_done}
 use Rattle.marks.proofs.mark.children_of.Goals as goal

@@ -1,8 +1,6 @@
 -- `marks::mark::earlier_siblings_of` meets its contract: the laws of the axis, over what `add-children` leaves.
 -- Assumes nothing.
-use native.Mathlib.Omega.{arith}
-use borrow.Author.Rules.{rules}
-use Rattle.marks.proofs.ContextLaws.{turn_row, turn_root, turn_parent, parent_fits}
+use Rattle.marks.proofs.ContextLaws.{turn_root, turn_parent}
 use Rattle.marks.proofs.EarlierLaws.{earlier_asks, earlier_done, earlier_none}
 use Rattle.marks.proofs.mark.earlier_siblings_of.Goals as goal
 

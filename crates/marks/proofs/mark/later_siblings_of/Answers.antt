@@ -1,8 +1,7 @@
 -- `marks::mark::later_siblings_of` meets its contract: the laws of the axis, over what `add-children` leaves. Assumes
 -- nothing.
 use native.Mathlib.Omega.{arith}
-use borrow.Author.Rules.{rules}
-use Rattle.marks.proofs.ContextLaws.{turn_row, turn_fits, turn_root, turn_parent, parent_fits}
+use Rattle.marks.proofs.ContextLaws.{turn_fits, turn_root, turn_parent, parent_fits}
 use Rattle.marks.proofs.LaterLaws.{later_asks, later_done, later_none}
 use Rattle.marks.proofs.mark.later_siblings_of.Goals as goal
 

@@ -1,10 +1,7 @@
 -- `marks::mark::mark_children` meets its contract. The loop's invariant: what the first i contexts reach is in.
 -- Assumes nothing.
-use Prim.Native.Nat.{◌-◌, ◌≤◌}
 use native.Mathlib.Omega.{arith}
-use lib.ListN.{length, take}
-use Rattle.marks.specs.RowSet.{Marked}
-use Rattle.marks.proofs.ContextLaws.{marks_first, marks_turn, take_done}
+use Rattle.marks.proofs.ContextLaws.{marks_first}
 use Rattle.marks.proofs.mark.mark_children.Goals as goal
 
 pub loop-i-init : goal.loop-i-init

@@ -1,11 +1,8 @@
 -- `marks::mark::mark_earlier_siblings` meets its contract. The loop's invariant: what the contexts from number i on
 -- reach is in. Assumes nothing.
-use Prim.Native.Nat.{◌+◌, ◌-◌, ◌≤◌}
-use mathlib.Core.Path.{◌≡◌}
-use native.Mathlib.Omega.{arith}
+use Prim.Native.Nat.{◌≤◌}
 use lib.ListN.{length, drop}
 use Rattle.marks.specs.RowSet.{Marked}
-use Rattle.marks.proofs.ContextLaws.{marks_last, marks_turn, drop_done}
 use Rattle.marks.proofs.mark.mark_earlier_siblings.Given as goal
 
 abbrev pub invariant-loop-i : goal.invariant-loop-i

@@ -1,10 +1,8 @@
 -- `marks::mark::mark_later_siblings` meets its contract. The loop's invariant: what the first i contexts reach is in.
 -- Assumes nothing.
 use Prim.Native.Nat.{◌-◌, ◌≤◌}
-use native.Mathlib.Omega.{arith}
 use lib.ListN.{length, take}
 use Rattle.marks.specs.RowSet.{Marked}
-use Rattle.marks.proofs.ContextLaws.{marks_first, marks_turn, take_done}
 use Rattle.marks.proofs.mark.mark_later_siblings.Given as goal
 
 abbrev pub invariant-loop-i : goal.invariant-loop-i

@@ -1,6 +1,5 @@
 -- `marks::mark::parent_of` meets its contract: the laws of the axis, over what `add` leaves. Assumes nothing.
 use native.Mathlib.Omega.{arith}
-use borrow.Author.Rules.{rules}
 use Rattle.tree.proofs.TreeLaws.{parent_below}
 use Rattle.marks.proofs.ContextLaws.{turn_row, turn_root, turn_parent}
 use Rattle.marks.proofs.ParentLaws.{parent_none, parent_done}

@@ -1,7 +1,6 @@
 -- `marks::row_set::add_row` meets its contract: `add_added` says so of the words that it leaves. Assumes nothing.
 use Prim.Native.Nat.{◌/◌, ◌%◌}
 use native.Mathlib.Omega.{arith}
-use borrow.Author.Rules.{rules}
 use Rattle.marks.proofs.RowSetLaws.{shifted_one, add_added}
 use Rattle.marks.proofs.row_set.add_row.Goals as goal
 

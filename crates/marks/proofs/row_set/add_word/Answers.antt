@@ -1,5 +1,4 @@
 -- `marks::row_set::add_word` meets its contract: `add_joined` says so of the words that it leaves. Assumes nothing.
-use borrow.Author.Rules.{rules}
 use Rattle.marks.proofs.RowSetLaws.{shifted_one}
 use Rattle.marks.proofs.AddWordLaws.{add_joined}
 use Rattle.marks.proofs.row_set.add_word.Goals as goal

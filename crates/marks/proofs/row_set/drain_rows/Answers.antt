@@ -1,17 +1,11 @@
 -- `marks::row_set::drain_rows` meets its contract. The loop's invariant: for some word, the words before it are cleared
 -- and their rows that fit are written, the others are as they were, and `left` marks those of them that hold a row.
 -- The measure is `left`. Assumes nothing.
-use Prim.Native.Nat.{◌<◌, ◌≤◌}
-use mathlib.Core.Path.{◌≡◌, sym, ◌∙◌}
-use native.Mathlib.Nat.{le_refl}
+use Prim.Native.Nat.{◌≤◌}
+use mathlib.Core.Path.{◌≡◌}
 use native.Mathlib.Omega.{arith}
-use borrow.Author.Rules.{rules}
-use lib.Count.{count_trailing_zeros}
 use lib.ListN.{length}
-use Rattle.scan.specs.Want.{fits}
-use Rattle.marks.proofs.BitLaws.{lowest_less}
-use Rattle.marks.proofs.BitsLeftLaws.{left_high}
-use Rattle.marks.proofs.DrainLaws.{SetWalk, set_start, set_length, set_index, set_done}
+use Rattle.marks.proofs.DrainLaws.{set_start, set_length, set_index, set_done}
 use Rattle.marks.proofs.DrainLaws.{set_asks, set_sum, set_next}
 use Rattle.marks.proofs.row_set.drain_rows.Goals as goal
 use Rattle.marks.proofs.row_set.drain_rows.Goals.{At-loop-left, In-loop-left}

@@ -2,15 +2,11 @@
 -- that fit are written, and the rest has the word's bits from there on. The measure is the rest. Assumes nothing.
 use Prim.Native.Nat.{◌<◌}
 use mathlib.Core.Path.{◌≡◌}
-use mathlib.Core.Logic.{⊎_elim}
 use native.Mathlib.Omega.{arith}
-use borrow.Author.Rules.{rules}
 use lib.Count.{count_trailing_zeros}
 use lib.ListN.{length}
-use Rattle.scan.specs.Want.{fits}
-use Rattle.marks.proofs.BitLaws.{lowest_less}
 use Rattle.marks.proofs.BitsLeftLaws.{left_high, left_set}
-use Rattle.marks.proofs.WordLaws.{WordWalk, word_start, word_done, word_length, word_index, word_no, word_yes}
+use Rattle.marks.proofs.WordLaws.{word_start, word_done, word_length, word_index, word_no, word_yes}
 use Rattle.marks.proofs.row_set.drain_word.Goals as goal
 use Rattle.marks.proofs.row_set.drain_word.Goals.{At-loop-rest, In-loop-rest, Then-fits_row, else-fits_row, then-fits_row}
 

@@ -1,16 +1,7 @@
 -- `marks::row_set::drain_word` meets its contract. The loop's invariant: for some bit of the word, the rows before it
 -- that fit are written, and the rest has the word's bits from there on. The measure is the rest. Assumes nothing.
-use Prim.Native.Nat.{◌<◌}
-use mathlib.Core.Path.{◌≡◌}
-use mathlib.Core.Logic.{⊎_elim}
-use native.Mathlib.Omega.{arith}
-use borrow.Author.Rules.{rules}
-use lib.Count.{count_trailing_zeros}
-use lib.ListN.{length}
 use Rattle.scan.specs.Want.{fits}
-use Rattle.marks.proofs.BitLaws.{lowest_less}
-use Rattle.marks.proofs.BitsLeftLaws.{left_high, left_set}
-use Rattle.marks.proofs.WordLaws.{WordWalk, word_start, word_done, word_length, word_index, word_no, word_yes}
+use Rattle.marks.proofs.WordLaws.{WordWalk}
 use Rattle.marks.proofs.row_set.drain_word.Given as goal
 
 abbrev pub invariant-loop-rest : goal.invariant-loop-rest

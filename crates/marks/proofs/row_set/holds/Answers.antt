@@ -1,6 +1,5 @@
 -- `marks::row_set::holds` meets its contract. Assumes nothing.
 use mathlib.Core.Path.{refl}
-use borrow.Author.Rules.{rules}
 use Rattle.marks.specs.RowSet.{has, bit}
 use Rattle.marks.proofs.row_set.holds.Goals as goal
 

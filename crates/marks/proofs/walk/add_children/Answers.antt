@@ -1,9 +1,7 @@
 -- `marks::walk::add_children` meets its contract. The loop's invariant, `ChildrenAdded`: the children before row w
 -- are in, and w is the next child, or not before the end. Assumes nothing.
-use Prim.Native.Nat.{◌-◌}
-use mathlib.Core.Path.{sym, ◌∙◌}
 use native.Mathlib.Omega.{arith}
-use Rattle.marks.proofs.ChildWalkLaws.{ChildrenAdded, row_in_use, walk_start, walk_nothing, walk_met}
+use Rattle.marks.proofs.ChildWalkLaws.{row_in_use, walk_start, walk_nothing}
 use Rattle.marks.proofs.ChildWalkLaws.{walk_gathers, walk_next, walk_done}
 use Rattle.marks.proofs.WordChildLaws.{gathered_some}
 use Rattle.marks.proofs.walk.add_children.Goals as goal

@@ -1,8 +1,5 @@
 -- `marks::walk::children_in_word` meets its contract. The loop's invariant: the children before row w are gathered.
 -- Assumes nothing.
-use Prim.Native.Nat.{◌-◌}
-use borrow.Author.Rules.{rules}
-use Rattle.marks.specs.Mark.{Gathered}
 use Rattle.marks.proofs.WordChildLaws.{gathered_start}
 use Rattle.marks.proofs.walk.children_in_word.Goals as goal
 

@@ -1,11 +1,9 @@
 -- `marks::walk::past_leaves` meets its contract. The loop's invariant: the children before row w are gathered, and w is
 -- not before the row at which it began. Assumes nothing.
-use Prim.Native.Nat.{◌+◌, ◌-◌, ◌%◌, ◌≤◌}
+use Prim.Native.Nat.{◌+◌, ◌%◌}
 use mathlib.Core.Path.{◌≡◌}
 use native.Mathlib.Omega.{arith}
-use borrow.Author.Rules.{rules}
 use Rattle.tree.specs.Table.{at}
-use Rattle.marks.specs.Mark.{Gathered}
 use Rattle.marks.proofs.RowSetLaws.{shifted_one}
 use Rattle.marks.proofs.ChildWalkLaws.{row_in_use}
 use Rattle.marks.proofs.WordChildLaws.{gathers_inside, gathered_next}

@@ -4,7 +4,6 @@ use mir.Facts.{to_z-of_z}
 use borrow.Author.Tests.{le-leb, lt-leb}
 use Rattle.tree.specs.Refusal.{given, next}
 use Rattle.tree.specs.Carry.{old_count_ok}
-use borrow.Author.Rules.{rules}
 use Rattle.moves.proofs.checks.check_call.Goals as goal
 
 pub returns-then-old_count-lt1 : goal.returns-then-old_count-lt1

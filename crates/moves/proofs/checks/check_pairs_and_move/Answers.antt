@@ -4,7 +4,6 @@ use mir.Syntax.{w64}
 use mir.Facts.{to_z-of_z}
 use Rattle.tree.specs.Refusal.{given, next}
 use Rattle.tree.specs.Carry.{move_ok}
-use borrow.Author.Rules.{rules}
 use Rattle.moves.proofs.checks.check_pairs_and_move.Goals as goal
 
 pub returns-then-move_ok : goal.returns-then-move_ok

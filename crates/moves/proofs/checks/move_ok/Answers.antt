@@ -10,9 +10,8 @@ use lib.Signed.{mag, lt_z, le_z}
 use mir.Syntax.{w64}
 use mir.Val.{SFits, to_z, of_z}
 use mir.Facts.{to_z-of_z}
-use Rattle.moves.proofs.SignedLaws.{sum_fits, sum_is, small_move, refused_otherwise, far_down, far_up}
+use Rattle.moves.proofs.SignedLaws.{sum_is, small_move, refused_otherwise, far_down, far_up}
 use Rattle.moves.proofs.SignedLaws.{same_tests}
-use borrow.Author.Rules.{rules}
 use Rattle.moves.proofs.checks.move_ok.Goals as goal
 
 -- a move that passes both tests is small

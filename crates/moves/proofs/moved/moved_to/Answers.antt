@@ -11,7 +11,6 @@ use Rattle.tree.specs.CarryRules.{MoveFits}
 use Rattle.tree.proofs.RowMoveLaws.{move_ok_lem}
 use Rattle.moves.specs.Moves.{MovesRow}
 use Rattle.moves.proofs.SignedLaws.{sum_fits, sum_is, fits_small, row_moves}
-use borrow.Author.Rules.{rules}
 use Rattle.moves.proofs.moved.moved_to.Goals as goal
 
 -- RAW

@@ -1,9 +1,6 @@
 -- `rows::one_pass::fits_in` meets its contract, test by test. Assumes nothing.
-use Prim.Native.Nat.{◌+◌}
-use native.Mathlib.Omega.{arith}
 use borrow.Author.Tests.{le-leb, lt-leb}
 use Rattle.rows.specs.OnePass.{fits_in}
-use borrow.Author.Rules.{rules}
 use Rattle.rows.proofs.one_pass.fits_in.Goals as goal
 
 pub returns-then-most-own : goal.returns-then-most-own

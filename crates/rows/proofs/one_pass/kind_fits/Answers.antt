@@ -8,7 +8,6 @@ use native.Mathlib.Nat.{eq-or-lt_of_le}
 use native.Mathlib.Omega.{arith}
 use borrow.Author.Tests.{le-leb, lt-leb, eq-eqb, ne_eqb, eqb-true}
 use Rattle.tree.specs.Sound.{kind_ok, name_ok, has_name}
-use borrow.Author.Rules.{rules}
 use Rattle.rows.proofs.one_pass.kind_fits.Goals as goal
 
 -- a document

@@ -1,18 +1,14 @@
 -- `rows::one_pass::passed_in` meets its contract. The rows below i are followed: each has its size, or is unfinished
 -- and stands in ends; and they are chained by their keys, which are good. Assumes nothing.
-use Prim.Native.Nat.{ℕ, ◌+◌, ◌≤◌, ◌<◌, ◌-◌}
+use Prim.Native.Nat.{◌+◌, ◌≤◌, ◌<◌}
 use mathlib.Core.Path.{◌≡◌, sym, ◌∙◌}
 use mathlib.Core.Bool.{true, ◌&&◌}
 use native.Mathlib.Omega.{arith}
-use lib.ListN.{length}
 use borrow.Author.Count.{below_more, below_none}
-use borrow.Author.Tests.{not-false}
-use Rattle.tree.specs.Table.{table_of, at}
+use Rattle.tree.specs.Table.{at}
 use Rattle.tree.specs.Sound.{kind_ok, name_ok, key_ok}
-use Rattle.keys.specs.Chain.{Chained}
-use Rattle.keys.proofs.KeyLaws.{room_for}
 use Rattle.rows.specs.OnePass.{fits_in}
-use Rattle.rows.proofs.OnePassLaws.{Followed, followed_start, row_ends, followed_more, followed_all}
+use Rattle.rows.proofs.OnePassLaws.{followed_start, row_ends, followed_more, followed_all}
 use borrow.Author.Rules.{rules}
 use Rattle.rows.proofs.one_pass.passed_in.Goals as goal
 use Rattle.rows.proofs.one_pass.passed_in.Goals.{Else-not-kind_fits}

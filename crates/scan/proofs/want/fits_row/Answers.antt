@@ -1,9 +1,7 @@
 -- `scan::want::fits_row` meets its contract. Where the halves of the first test meet, the flag says whether the kind
 -- fits. Assumes nothing.
 use mathlib.Core.Path.{◌≡◌, sym, ap, ◌∙◌}
-use mathlib.Core.Logic.{⊎_elim}
 use mathlib.Core.Bool.{Bool, ◌||◌}
-use borrow.Author.Rules.{rules}
 use borrow.Author.Tests.{eq-eqb, ne_eqb}
 use lib.Dec.{eqb}
 use Rattle.tree.specs.Table.{at}

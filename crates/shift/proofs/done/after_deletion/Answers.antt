@@ -3,8 +3,7 @@ use mathlib.Core.Path.{ap}
 use Prim.Native.Nat.{◌-◌}
 use native.Mathlib.Omega.{arith}
 use Rattle.shift.specs.Done.{answered}
-use Rattle.shift.proofs.SignedMoveLaws.{small_pos, neg_is, minus_fits, back_is}
-use borrow.Author.Rules.{rules}
+use Rattle.shift.proofs.SignedMoveLaws.{back_is}
 use Rattle.shift.proofs.done.after_deletion.Goals as goal
 
 pub returns : goal.returns

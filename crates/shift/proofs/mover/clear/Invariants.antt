@@ -1,8 +1,7 @@
 -- `shift::mover::clear` meets its contract. The first i rows are zero, the others stand as they stood. Assumes nothing.
-use native.Mathlib.Omega.{arith}
 use Prim.Native.Nat.{◌≤◌, ◌-◌}
 use lib.ListN.{replicate}
-use Rattle.shift.proofs.MoverLaws.{Put, put_start, clear_turn, clear_end}
+use Rattle.shift.proofs.MoverLaws.{Put}
 use Rattle.shift.proofs.mover.clear.Given as goal
 
 abbrev pub invariant-loop-i : goal.invariant-loop-i

@@ -1,7 +1,6 @@
 -- `shift::mover::clear_column` meets its contract. Assumes nothing.
 use native.Mathlib.Omega.{arith}
 use Rattle.shift.proofs.MoverLaws.{clear_column_lem}
-use borrow.Author.Rules.{rules}
 use Rattle.shift.proofs.mover.clear_column.Goals as goal
 
 pub returns : goal.returns

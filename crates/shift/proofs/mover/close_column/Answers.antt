@@ -1,7 +1,6 @@
 -- `shift::mover::close_column` meets its contract: later rows pulled up, then the freed rows cleared. Assumes nothing.
 use native.Mathlib.Omega.{arith}
 use Rattle.shift.proofs.MoverLaws.{pulled_cleared}
-use borrow.Author.Rules.{rules}
 use Rattle.shift.proofs.mover.close_column.Goals as goal
 
 pub returns : goal.returns

@@ -1,7 +1,6 @@
 -- `shift::mover::open_column` meets its contract. Assumes nothing.
 use native.Mathlib.Omega.{arith}
 use Rattle.shift.proofs.MoverLaws.{open_column_lem}
-use borrow.Author.Rules.{rules}
 use Rattle.shift.proofs.mover.open_column.Goals as goal
 
 pub returns : goal.returns

@@ -3,7 +3,6 @@ use mathlib.Core.List.{map}
 use Prim.Native.Nat.{◌+◌}
 use native.Mathlib.Omega.{arith}
 use Rattle.shift.proofs.MoverLaws.{open_column_lem}
-use borrow.Author.Rules.{rules}
 use Rattle.shift.proofs.mover.open_column_raised.Goals as goal
 
 pub returns : goal.returns

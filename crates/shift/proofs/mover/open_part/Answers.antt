@@ -1,7 +1,6 @@
 -- `shift::mover::open_part` meets its contract. Assumes nothing.
 use native.Mathlib.Omega.{arith}
 use Rattle.shift.proofs.MoverLaws.{open_part_lem}
-use borrow.Author.Rules.{rules}
 use Rattle.shift.proofs.mover.open_part.Goals as goal
 
 pub returns : goal.returns

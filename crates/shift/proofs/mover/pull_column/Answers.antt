@@ -1,7 +1,6 @@
 -- `shift::mover::pull_column` meets its contract. Assumes nothing.
 use native.Mathlib.Omega.{arith}
 use Rattle.shift.proofs.MoverLaws.{pull_column_lem}
-use borrow.Author.Rules.{rules}
 use Rattle.shift.proofs.mover.pull_column.Goals as goal
 
 pub returns : goal.returns

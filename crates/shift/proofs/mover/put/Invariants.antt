@@ -1,9 +1,7 @@
 -- `shift::mover::put` meets its contract. The first i rows are those of src, the others stand as they stood. Assumes
 -- nothing.
-use mathlib.Core.Path.{refl}
-use native.Mathlib.Omega.{arith}
 use Prim.Native.Nat.{◌≤◌, ◌-◌}
-use Rattle.shift.proofs.MoverLaws.{Put, put_start, put_turn, put_end}
+use Rattle.shift.proofs.MoverLaws.{Put}
 use Rattle.shift.proofs.mover.put.Given as goal
 
 abbrev pub invariant-loop-i : goal.invariant-loop-i

@@ -1,9 +1,7 @@
 -- `shift::mover::put_raised` meets its contract. The first i rows are those of src with add more, the others stand as
 -- they stood. Assumes nothing.
-use mathlib.Core.List.{map}
-use Prim.Native.Nat.{◌+◌, ◌-◌, ◌≤◌}
 use native.Mathlib.Omega.{arith}
-use Rattle.shift.proofs.MoverLaws.{Put, put_start, raised_turn, put_end}
+use Rattle.shift.proofs.MoverLaws.{raised_turn}
 use borrow.Author.Rules.{rules}
 use Rattle.shift.proofs.mover.put_raised.Goals as goal
 

@@ -2,9 +2,7 @@
 -- they stood. Assumes nothing.
 use mathlib.Core.List.{map}
 use Prim.Native.Nat.{◌+◌, ◌-◌, ◌≤◌}
-use native.Mathlib.Omega.{arith}
-use Rattle.shift.proofs.MoverLaws.{Put, put_start, raised_turn, put_end}
-use borrow.Author.Rules.{rules}
+use Rattle.shift.proofs.MoverLaws.{Put}
 use Rattle.shift.proofs.mover.put_raised.Given as goal
 
 abbrev pub invariant-loop-i : goal.invariant-loop-i

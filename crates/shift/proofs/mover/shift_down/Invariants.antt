@@ -1,8 +1,6 @@
 -- `shift::mover::shift_down` meets its contract. Until i, the rows stand where they stood; from i on they have moved.
 -- Assumes nothing.
-use native.Mathlib.Omega.{arith}
-use borrow.Author.Rules.{rules}
-use Rattle.shift.proofs.MoverLaws.{Down, down_start, down_turn, down_end}
+use Rattle.shift.proofs.MoverLaws.{Down}
 use Rattle.shift.proofs.mover.shift_down.Given as goal
 
 abbrev pub invariant-loop-i : goal.invariant-loop-i

@@ -1,9 +1,8 @@
 -- `shift::mover::shift_up` meets its contract. The first i rows are those `by` rows further on, the others stand as
 -- they stood. Assumes nothing.
-use native.Mathlib.Omega.{arith}
 use Prim.Native.Nat.{◌≤◌, ◌-◌}
 use lib.ListN.{drop}
-use Rattle.shift.proofs.MoverLaws.{Put, put_start, up_turn, put_end}
+use Rattle.shift.proofs.MoverLaws.{Put}
 use Rattle.shift.proofs.mover.shift_up.Given as goal
 
 abbrev pub invariant-loop-i : goal.invariant-loop-i

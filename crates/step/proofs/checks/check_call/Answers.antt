@@ -1,7 +1,6 @@
 -- `step::checks::check_call` meets its contract: the first refusal of the two. Assumes nothing.
 use Rattle.tree.specs.Refusal.{next}
 use Rattle.tree.specs.Outcome.{check_outcome}
-use borrow.Author.Rules.{rules}
 use Rattle.step.proofs.checks.check_call.Goals as goal
 
 pub returns-in-Refused : goal.returns-in-Refused

@@ -1,6 +1,5 @@
 -- `step::checks::check_pairs_and_ask` meets its contract: the first refusal of the two. Assumes nothing.
 use Rattle.tree.specs.Refusal.{next}
-use borrow.Author.Rules.{rules}
 use Rattle.step.proofs.checks.check_pairs_and_ask.Goals as goal
 
 pub returns-in-Refused : goal.returns-in-Refused

@@ -1,7 +1,6 @@
 -- `step::room::check_room` meets its contract: a bound that fits, or the count itself. Assumes nothing.
 use borrow.Author.Tests.{lt-ltb, le-ltb}
 use Rattle.tree.specs.Refusal.{given}
-use borrow.Author.Rules.{rules}
 use Rattle.step.proofs.room.check_room.Goals as goal
 
 pub returns-then-surely_fits : goal.returns-then-surely_fits
