@@ -9,6 +9,7 @@ ghost use Rattle.tree.specs.Refusal.{ask_check};
 use tree::{Ask, Checked};
 
 // Whether the axis code is known.
+#[tactic(auto, using(std::proofs::lemmas::Bool::Decides::nat_tests), unfolding(tree::specs::Axis::axis_ok))]
 fn axis_ok(axis: usize) -> bool
     ensures { result ≡ axis_ok axis }
 {

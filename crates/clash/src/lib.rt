@@ -28,7 +28,8 @@ fn clash_by_rows(key: &[usize], n: usize, piece: &[usize], m: usize) -> usize
 {
     let mut i = 0;
     while i < m {
-        if row_of(key, n, piece[i]) < n {
+        let taken = row_of(key, n, piece[i]) < n;
+        if taken {
             return i;
         }
         i += 1;

@@ -85,7 +85,8 @@ pub fn key_ok(key: &[usize], i: usize, heads: &[u16], next: &[u16], shift: usize
     ensures { result ≡ key_ok key.now i }
 {
     let x = key[i];
-    if x == 0 {
+    let zero = x == 0;
+    if zero {
         return false;
     }
     i <= row_in(key, i, x, heads, next, shift)

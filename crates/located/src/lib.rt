@@ -44,7 +44,8 @@ pub fn where_is(level: &[usize], row: usize) -> Located
     ensures { result ≡ standing level.now row }
 {
     let own = level[row];
-    if own == 0 {
+    let root = own == 0;
+    if root {
         return Located::Root(row);
     }
     let parent = parent_of(level, row, own - 1);

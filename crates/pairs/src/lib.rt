@@ -97,7 +97,8 @@ pub fn check_pairs(count: usize, role: &[usize], row: &[usize]) -> Checked
     if role.len() != row.len() {
         return Checked::Refused(3, 0);
     }
-    if 4096 < role.len() {
+    let too_long = 4096 < role.len();
+    if too_long {
         return Checked::Refused(3, 0);
     }
     if !either(falls_somewhere(role, row), leaves_somewhere(count, row)) {

@@ -19,7 +19,8 @@ pub fn level_ok(level: &[usize], i: usize) -> bool
     if own < 1 {
         return true;
     }
-    if 63 < own {
+    let too_deep = 63 < own;
+    if too_deep {
         return false;
     }
     if before < own - 1 {

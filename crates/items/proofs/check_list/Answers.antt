@@ -9,16 +9,16 @@ pub returns-then-either : goal.returns-then-either
 unfolding list_check given some_below
 returns-then-either c = rw (← c.either.ensures, ← c.either-2.ensures, c.if-either.true)
 
-pub returns-then-first_wrong-items : goal.returns-then-first_wrong-items
+pub returns-then-wrong : goal.returns-then-wrong
 unfolding list_check given some_below
-returns-then-first_wrong-items c =
+returns-then-wrong c =
     let even = c in
     rw (
       ← even.either.ensures,
       ← even.either-2.ensures,
       even.if-either.false,
       ← c.first_wrong.ensures,
-      lt-ltb _ _ c.if-first_wrong-items.true,
+      lt-ltb _ _ c.if-wrong.true,
     )
 
 pub returns : goal.returns
@@ -30,5 +30,5 @@ returns c =
       ← even.either-2.ensures,
       even.if-either.false,
       ← c.first_wrong.ensures,
-      le-ltb _ _ c.if-first_wrong-items.false,
+      le-ltb _ _ c.if-wrong.false,
     )

@@ -3,8 +3,8 @@ use mathlib.Core.Path.{sym}
 use Rattle.keys.proofs.KeyLaws.{key_zero, key_new}
 use Rattle.keys.proofs.key_ok.Goals as goal
 
-pub returns-then-x-eq0 : goal.returns-then-x-eq0
-returns-then-x-eq0 c = sym (key_zero _ _ c.if-x-eq0.true)
+pub returns-then-zero : goal.returns-then-zero
+returns-then-zero c = sym (key_zero _ _ c.if-zero.true)
 
 pub returns : goal.returns
-returns c = rw c.row_in.ensures (key_new _ _ c.if-x-eq0.false)
+returns c = rw c.row_in.ensures (key_new _ _ c.if-zero.false)

@@ -6,11 +6,11 @@ use Rattle.tree.proofs.TreeLaws.{parent_none}
 use Rattle.tree.proofs.StandingLaws.{stands_root, stands_under}
 use Rattle.located.proofs.where_is.Goals as goal
 
-pub returns-then-own-eq0 : goal.returns-then-own-eq0
-returns-then-own-eq0 c =
+pub returns-then-root : goal.returns-then-root
+returns-then-root c =
     let s = c in
     sym (stands_root s.args.level.now s.args.row
-    (parent_none s.args.level.now s.args.row c.if-own-eq0.true))
+    (parent_none s.args.level.now s.args.row c.if-root.true))
 
 pub returns : goal.returns
 returns c =

@@ -12,15 +12,15 @@ pub returns-then-role-row : goal.returns-then-role-row
 unfolding pair_check given next
 returns-then-role-row c = simp (ne_eqb _ _ c.if-role-row.true)
 
-pub returns-then-role-gt4096 : goal.returns-then-role-gt4096
+pub returns-then-too_long : goal.returns-then-too_long
 unfolding pair_check given next
-returns-then-role-gt4096 c = simp (eq-eqb _ _ c.if-role-row.false, lt-ltb _ _ c.if-role-gt4096.true)
+returns-then-too_long c = simp (eq-eqb _ _ c.if-role-row.false, lt-ltb _ _ c.if-too_long.true)
 
 pub returns-then-not-either : goal.returns-then-not-either
 returns-then-not-either c =
     let none = neither _ _ (sym c.either.ensures ∙ not-true c.either.result (ap not c.if-not-either.true)) in
     sym (pairs_pass _ _ _ c.if-role-row.false
-    c.if-role-gt4096.false
+    c.if-too_long.false
     (c.falls_somewhere.ensures none.0)
     (c.leaves_somewhere.ensures none.1))
 
@@ -28,7 +28,7 @@ pub returns-then-disorder-role : goal.returns-then-disorder-role
 unfolding given given_at next
 returns-then-disorder-role c = rw (
   pair_check_is _ _ _ c.if-role-row.false
-      c.if-role-gt4096.false,
+      c.if-too_long.false,
   ← c.first_disorder-disorder.ensures,
   lt-ltb _ _ c.if-disorder-role.true,
 )
@@ -37,7 +37,7 @@ pub returns-then-outside-row : goal.returns-then-outside-row
 unfolding given given_at next
 returns-then-outside-row c = rw (
   pair_check_is _ _ _ c.if-role-row.false
-      c.if-role-gt4096.false,
+      c.if-too_long.false,
   ← c.first_disorder-disorder.ensures,
   le-ltb _ _ c.if-disorder-role.false,
   ← c.first_outside-outside.ensures,
@@ -48,7 +48,7 @@ pub returns : goal.returns
 unfolding given given_at next
 returns c = rw (
   pair_check_is _ _ _ c.if-role-row.false
-      c.if-role-gt4096.false,
+      c.if-too_long.false,
   ← c.first_disorder-disorder.ensures,
   le-ltb _ _ c.if-disorder-role.false,
   ← c.first_outside-outside.ensures,

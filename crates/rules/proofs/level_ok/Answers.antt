@@ -20,12 +20,12 @@ returns-then-own-lt1 c =
       le-leb (get_or a.level.now a.i 0) (get_or a.level.now (a.i - 1) 0 + 1) (omega arith),
     )
 
-pub returns-then-own-gt63 : goal.returns-then-own-gt63
+pub returns-then-too_deep : goal.returns-then-too_deep
 unfolding level_ok
-returns-then-own-gt63 c =
+returns-then-too_deep c =
     simp (
       ne_eqb _ _ c.if-i-eq0.false,
-      lt-leb _ _ c.if-own-gt63.true,
+      lt-leb _ _ c.if-too_deep.true,
     )
 
 pub returns-then-before-own : goal.returns-then-before-own
@@ -34,7 +34,7 @@ returns-then-before-own c =
     let a = c.args in
     simp (
       ne_eqb _ _ c.if-i-eq0.false,
-      le-leb _ _ c.if-own-gt63.false,
+      le-leb _ _ c.if-too_deep.false,
       lt-leb (get_or a.level.now a.i 0) (get_or a.level.now (a.i - 1) 0 + 1) (omega arith),
     )
 
@@ -44,6 +44,6 @@ returns c =
     let a = c.args in
     simp (
       ne_eqb _ _ c.if-i-eq0.false,
-      le-leb _ _ c.if-own-gt63.false,
+      le-leb _ _ c.if-too_deep.false,
       le-leb (get_or a.level.now a.i 0) (get_or a.level.now (a.i - 1) 0 + 1) (omega arith),
     )
