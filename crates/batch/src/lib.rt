@@ -60,7 +60,8 @@ fn edit_item(
     if count <= row {
         return Edited::Refused(9, 0);
     }
-    if item.code == 1 {
+    let deletes = item.code == 1;
+    if deletes {
         return deletion::delete_at(key, size, level, kind, name, count, where_is(level, row));
     }
     renaming::rename_row(key, size, level, kind, name, count, row, item.name)

@@ -32,7 +32,8 @@ pub fn carry(
         Checked::Passed => {
             let to = moved_to(old_count, first, moved, first);
             let left = pairs_left::count_left(row, to, first);
-            if smaller(out_role.len(), out_row.len()) < left {
+            let short = smaller(out_role.len(), out_row.len()) < left;
+            if short {
                 return Carried::Refused(8, left);
             }
             let edit = Move {

@@ -57,7 +57,8 @@ fn delete_root(
         key.new size.new level.new kind.new name.new }
 {
     let by = size[row] + 1;
-    if by == count {
+    let only = by == count;
+    if only {
         return Edited::Refused(15, 0);
     }
     close_rows(key, size, level, kind, name, count, row, by)

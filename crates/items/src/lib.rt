@@ -34,7 +34,8 @@ pub fn check_list(code: &[usize], key: &[usize], name: &[usize]) -> Checked
     if either(either(items != key.len(), items != name.len()), 256 < items) {
         return Checked::Refused(18, 0);
     }
-    let wrong = first_wrong(code, items) < items;
+    let first = first_wrong(code, items);
+    let wrong = first < items;
     if wrong {
         return Checked::Refused(18, 0);
     }

@@ -39,7 +39,8 @@ fn too_deep(level: &[usize], n: usize, add: usize) -> bool
 {
     let mut i = 0;
     while i < n {
-        if 63 < level[i] + add {
+        let above = 63 < level[i] + add;
+        if above {
             return true;
         }
         i += 1;
@@ -93,7 +94,8 @@ pub fn check_piece(
     if bad_piece(p_key, p_size, p_level, p_kind, p_name, p_count) {
         return Checked::Refused(10, 0);
     }
-    if 1 < kind[row] {
+    let childless = 1 < kind[row];
+    if childless {
         return Checked::Refused(11, row);
     }
     if too_deep(p_level, p_count, level[row] + 1) {

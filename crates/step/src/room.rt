@@ -41,7 +41,8 @@ pub(crate) fn check_room(
         return Checked::Passed;
     }
     let total = count_all(key, size, level, kind, name, count, up, role, row, ask);
-    if room < total {
+    let short = room < total;
+    if short {
         return Checked::Refused(8, total);
     }
     Checked::Passed

@@ -20,12 +20,12 @@ pub delete_at-requires : goal.delete_at-requires
 delete_at-requires c =
     row_found _ c.requires.sound _ c.if-count-row.false c.where_is.ensures
 
-pub returns-then-item-eq1 : goal.returns-then-item-eq1
-returns-then-item-eq1 c =
-    rw (item_deletes _ c.requires.sound c.args.item c.requires.row_value c.if-count-row.false c.if-item-eq1.true
+pub returns-then-deletes : goal.returns-then-deletes
+returns-then-deletes c =
+    rw (item_deletes _ c.requires.sound c.args.item c.requires.row_value c.if-count-row.false c.if-deletes.true
     c.where_is.ensures) c.delete_at.ensures
 
 pub returns : goal.returns
 returns c =
-    rw (item_renames _ c.requires.sound c.args.item c.requires.row_value c.if-count-row.false c.if-item-eq1.false)
+    rw (item_renames _ c.requires.sound c.args.item c.requires.row_value c.if-count-row.false c.if-deletes.false)
     c.rename_row.ensures

@@ -10,19 +10,19 @@ pub moved_to-to-requires : goal.moved_to-to-requires
 moved_to-to-requires c =
     call_moves _ _ _ _ _ (sym c.check_call-checked.ensures ∙ c.in-Passed.is)
 
-pub returns-then-smaller-left : goal.returns-then-smaller-left
-returns-then-smaller-left c =
+pub returns-then-short : goal.returns-then-short
+returns-then-short c =
     let back = to_z-of_z {w = w64} c.ranges.moved in
     let e = rw back at (sym c.check_call-checked.ensures ∙ c.in-Passed.is) in
     let l = rw back at c.moved_to-to.ensures in
     leaves_full _ _ _ _ _ _ _ e _ _ l c.count_left-left.ensures
-    (omega (arith, c.if-smaller-left.true, c.smaller.ensures))
+    (omega (arith, c.if-short.true, c.smaller.ensures))
 
 pub write-requires : goal.write-requires
 write-requires c =
     call_ready _ _ _ _ _ _ _ (sym c.check_call-checked.ensures ∙ c.in-Passed.is)
     _ _ c.moved_to-to.ensures c.count_left-left.ensures
-    (omega (arith, c.if-smaller-left.false, c.smaller.ensures))
+    (omega (arith, c.if-short.false, c.smaller.ensures))
 
 pub returns-in-Refused : goal.returns-in-Refused
 returns-in-Refused c =
@@ -30,11 +30,11 @@ returns-in-Refused c =
     leaves_refused _ _ _ _ _ _ _ _ _
     (rw back at (sym c.check_call-checked.ensures ∙ c.in-Refused.is))
 
-pub returns-else-smaller-left : goal.returns-else-smaller-left
-returns-else-smaller-left c =
+pub returns-else-short : goal.returns-else-short
+returns-else-short c =
     let back = to_z-of_z {w = w64} c.ranges.moved in
     let e = rw back at (sym c.check_call-checked.ensures ∙ c.in-Passed.is) in
     let l = rw back at c.moved_to-to.ensures in
     leaves_written _ _ _ _ _ _ _ e _ _ l c.count_left-left.ensures
-    (omega (arith, c.if-smaller-left.false, c.smaller.ensures))
+    (omega (arith, c.if-short.false, c.smaller.ensures))
     (rw back at c.write.ensures)

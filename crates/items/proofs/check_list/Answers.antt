@@ -17,7 +17,7 @@ returns-then-wrong c =
       ← even.either.ensures,
       ← even.either-2.ensures,
       even.if-either.false,
-      ← c.first_wrong.ensures,
+      ← c.first_wrong-first.ensures,
       lt-ltb _ _ c.if-wrong.true,
     )
 
@@ -29,6 +29,6 @@ returns c =
       ← even.either.ensures,
       ← even.either-2.ensures,
       even.if-either.false,
-      ← c.first_wrong.ensures,
+      ← c.first_wrong-first.ensures,
       le-ltb _ _ c.if-wrong.false,
     )

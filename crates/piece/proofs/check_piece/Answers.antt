@@ -55,9 +55,9 @@ pub returns-then-bad_piece : goal.returns-then-bad_piece
 returns-then-bad_piece c =
     sym (refused_bad (lent (goal.at.returns-then-bad_piece c).Start) c.args.row (piece (goal.at.returns-then-bad_piece c).Start) (sym c.bad_piece.ensures ∙ c.if-bad_piece.true))
 
-pub returns-then-kind-row-gt1 : goal.returns-then-kind-row-gt1
-returns-then-kind-row-gt1 c =
-    sym (refused_parent (lent (goal.at.returns-then-kind-row-gt1 c).Start) c.args.row (piece (goal.at.returns-then-kind-row-gt1 c).Start) (good (goal.at.returns-then-kind-row-gt1 c).Else-bad_piece) c.if-kind-row-gt1.true)
+pub returns-then-childless : goal.returns-then-childless
+returns-then-childless c =
+    sym (refused_parent (lent (goal.at.returns-then-childless c).Start) c.args.row (piece (goal.at.returns-then-childless c).Start) (good (goal.at.returns-then-childless c).Else-bad_piece) c.if-childless.true)
 
 pub too_deep-requires : goal.too_deep-requires
 too_deep-requires c =
@@ -68,7 +68,7 @@ too_deep-requires c =
 
 pub returns-then-too_deep : goal.returns-then-too_deep
 returns-then-too_deep c =
-    sym (refused_deep (lent (goal.at.returns-then-too_deep c).Start) c.args.row (piece (goal.at.returns-then-too_deep c).Start) (good (goal.at.returns-then-too_deep c).Else-bad_piece) c.if-kind-row-gt1.false
+    sym (refused_deep (lent (goal.at.returns-then-too_deep c).Start) c.args.row (piece (goal.at.returns-then-too_deep c).Start) (good (goal.at.returns-then-too_deep c).Else-bad_piece) c.if-childless.false
     (sym c.too_deep.ensures ∙ c.if-too_deep.true))
 
 pub first_clash-clash-requires : goal.first_clash-clash-requires
@@ -81,7 +81,7 @@ first_clash-clash-requires c =
 pub returns-then-clash-p_count : goal.returns-then-clash-p_count
 returns-then-clash-p_count c =
     ap (Refused 13) c.first_clash-clash.ensures
-    ∙ sym (refused_taken (lent (goal.at.returns-then-clash-p_count c).Start) c.args.row (piece (goal.at.returns-then-clash-p_count c).Start) (good (goal.at.returns-then-clash-p_count c).Else-bad_piece) c.if-kind-row-gt1.false (low (goal.at.returns-then-clash-p_count c).Else-too_deep)
+    ∙ sym (refused_taken (lent (goal.at.returns-then-clash-p_count c).Start) c.args.row (piece (goal.at.returns-then-clash-p_count c).Start) (good (goal.at.returns-then-clash-p_count c).Else-bad_piece) c.if-childless.false (low (goal.at.returns-then-clash-p_count c).Else-too_deep)
     (subst (λ (n : ℕ). n < c.args.p_count) c.first_clash-clash.ensures c.if-clash-p_count.true))
 
 pub overflow_add-count : goal.overflow_add-count
@@ -91,12 +91,12 @@ overflow_add-count c =
 
 pub returns-then-no_room : goal.returns-then-no_room
 returns-then-no_room c =
-    sym (refused_full (lent (goal.at.returns-then-no_room c).Start) c.args.row (piece (goal.at.returns-then-no_room c).Start) (good (goal.at.returns-then-no_room c).Else-bad_piece) c.if-kind-row-gt1.false
+    sym (refused_full (lent (goal.at.returns-then-no_room c).Start) c.args.row (piece (goal.at.returns-then-no_room c).Start) (good (goal.at.returns-then-no_room c).Else-bad_piece) c.if-childless.false
     (low (goal.at.returns-then-no_room c).Else-too_deep) (fresh (goal.at.returns-then-no_room c).Else-clash-p_count)
     (sym c.no_room.ensures ∙ c.if-no_room.true))
 
 pub returns : goal.returns
 returns c =
-    sym (passed_all (lent (goal.at.returns c).Start) c.args.row (piece (goal.at.returns c).Start) (good (goal.at.returns c).Else-bad_piece) c.if-kind-row-gt1.false
+    sym (passed_all (lent (goal.at.returns c).Start) c.args.row (piece (goal.at.returns c).Start) (good (goal.at.returns c).Else-bad_piece) c.if-childless.false
     (low (goal.at.returns c).Else-too_deep) (fresh (goal.at.returns c).Else-clash-p_count)
     (sym c.no_room.ensures ∙ c.if-no_room.false))

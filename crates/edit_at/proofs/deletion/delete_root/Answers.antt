@@ -15,9 +15,9 @@ pub overflow_add-by : goal.overflow_add-by
 overflow_add-by c =
     omega (arith, rows_fit (lent (goal.at.overflow_add-by c).Start) c.args.row c.requires.known, c.requires.known.sound.in_use)
 
-pub returns-then-by-count : goal.returns-then-by-count
-returns-then-by-count c =
-    root_refused (lent (goal.at.returns-then-by-count c).Start) c.args.row c.requires c.if-by-count.true
+pub returns-then-only : goal.returns-then-only
+returns-then-only c =
+    root_refused (lent (goal.at.returns-then-only c).Start) c.args.row c.requires c.if-only.true
 
 pub close_rows-requires : goal.close_rows-requires
 close_rows-requires c = record {
@@ -27,5 +27,5 @@ close_rows-requires c = record {
 
 pub returns : goal.returns
 returns c =
-    delete_made (lent (goal.at.returns c).Start) c.args.row (root_passes (lent (goal.at.returns c).Start) c.args.row c.requires c.if-by-count.false)
+    delete_made (lent (goal.at.returns c).Start) c.args.row (root_passes (lent (goal.at.returns c).Start) c.args.row c.requires c.if-only.false)
     (root_sizes (lent (goal.at.returns c).Start) c.args.row c.requires _) c.close_rows.ensures

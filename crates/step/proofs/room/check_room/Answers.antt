@@ -7,10 +7,10 @@ pub returns-then-surely_fits : goal.returns-then-surely_fits
 unfolding given
 returns-then-surely_fits c = rw (le-ltb _ _ (c.surely_fits.ensures c.if-surely_fits.true))
 
-pub returns-then-room-total : goal.returns-then-room-total
+pub returns-then-short : goal.returns-then-short
 unfolding given
-returns-then-room-total c = rw (← c.count_all-total.ensures, lt-ltb _ _ c.if-room-total.true)
+returns-then-short c = rw (← c.count_all-total.ensures, lt-ltb _ _ c.if-short.true)
 
 pub returns : goal.returns
 unfolding given
-returns c = rw (← c.count_all-total.ensures, le-ltb _ _ c.if-room-total.false)
+returns c = rw (← c.count_all-total.ensures, le-ltb _ _ c.if-short.false)
