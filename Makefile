@@ -10,7 +10,7 @@ SEED ?= 1
 CALLS ?= 1000000
 
 reach:
-	rt run reach
+	cd crates/reach && rt run
 
 library:
 	tools/staticlib
