@@ -1,5 +1,5 @@
 # make reach: proves, builds and runs the example program.
-# make test:  the whole proof from nothing, then the examples, the tests and the comparisons with the second program.
+# make test:  the whole proof, then the examples, the tests and the comparisons with the second program.
 # make compare SEED=1 CALLS=1000000: the comparisons, for as long as asked.
 # make memcheck SEED=1 CALLS=100000: the same under valgrind.
 # make bench: the library beside plain Rust.
