@@ -5,9 +5,10 @@ use std::error::Error;
 use std::fmt;
 
 /// Why a call was refused: one of seventeen reasons, or one that this wrapper has no name for. Where
-/// several apply, the one of the lowest number is given, but number 17 before number 8; and every
-/// column that was lent is unchanged. Later versions may have further reasons, so a `match` needs an
-/// arm for the rest.
+/// several apply, the one of the lowest number is given, but number 17 before number 8, and number
+/// 18, a batch's, before those of its items; and every column that was lent is unchanged, but for
+/// what the items of a batch before a refused one did. Later versions may have further reasons, so a
+/// `match` needs an arm for the rest.
 ///
 /// ```
 /// use reach::Refusal;
