@@ -12,12 +12,9 @@ use Rattle.tree.specs.Sound.{row_of}
 use Rattle.tree.specs.Rules.{InUse, Sound}
 use Rattle.tree.specs.EditRules.{InsertFits, EditFits}
 use Rattle.tree.specs.Edit.{opened, closed, gap_of, inserted, deleted, renamed}
-use Rattle.tree.specs.Refusal.{insert_check, delete_check, rename_check}
+use Rattle.tree.specs.Refusal.{insert_check, delete_check, rename_check, Checked, passed}
 use Rattle.tree.specs.Outcome.{EditOutcome, edit_if, edit_check, insert_outcome, delete_outcome, rename_outcome}
-use Rattle.tree.specs.declared.Checked.{Checked}
-use Rattle.tree.specs.declared.Checked.TheVariants.{Passed, Refused}
 use Rattle.tree.specs.declared.Done.{Done}
-use Rattle.tree.specs.declared.Edited.TheVariants.{Made, Refused as NotMade}
 use Rattle.tree.proofs.AcceptLaws.{insert_passes, delete_passes, rename_passes, edit_passes}
 use Rattle.tree.proofs.ColumnLaws.{length_opened, length_closed, length_changed}
 use Rattle.tree.proofs.Nodes.{nodes_of, Edit, ins, del, ren, edited}
@@ -26,6 +23,7 @@ use Rattle.tree.proofs.EditSound.{sound_inserted, sound_deleted, sound_renamed}
 use Rattle.after_edit.specs.Act.{Act, insertion, deletion, renaming, outcome, Accepted, key_of, row_named, brings}
 use Rattle.after_edit.specs.Act.{table_after, done_of}
 use Rattle.after_edit.specs.Spare.{SameLengths}
+use Rattle.std.specs.Prelude.{Ok, Err}
 
 -- ── accepted in plain words ──
 -- the edit's own check of the row that it names
@@ -47,11 +45,11 @@ outcome_is (deletion k) t = refl
 outcome_is (renaming k m) t = refl
 
 -- an outcome that is no refusal passed its check
-made_passed : (c : Checked) (d : Done) (u t : Table) → Accepted (edit_if c d u t) → c ≡ Passed
+made_passed : (c : Checked) (d : Done) (u t : Table) → Accepted (edit_if c d u t) → c ≡ passed
 unfolding edit_if
-made_passed Passed d u t h = refl
-made_passed (Refused m p) d u t h =
-    let e : NotMade m p ≡ Made h.0 = h.1 in
+made_passed (Ok v) d u t h = refl
+made_passed (Err why) d u t h =
+    let e : Err why ≡ Ok h.0 = h.1 in
     let z : ◌≡◌ {A = ℕ} 0 1 = cc in
     absurd (omega arith)
 
@@ -63,7 +61,7 @@ accepted_fits a t h =
 
 -- the outcome where no refusal applies
 fits_outcome : (a : Act) (t : Table) → Fits a t
-    → outcome a t ≡ record { answer = Made (done_of a t); table = table_after a t }
+    → outcome a t ≡ record { answer = Ok (done_of a t); table = table_after a t }
 unfolding edit_if
 fits_outcome a t f =
     outcome_is a t
@@ -74,7 +72,7 @@ pub fits_accepted : (a : Act) (t : Table) → Fits a t → Accepted (outcome a t
 fits_accepted a t f = (done_of a t, ap (λ (o : EditOutcome). o.answer) (fits_outcome a t f))
 
 -- an accepted edit answers what the definitions say
-pub accepted_answer : (a : Act) (t : Table) → Accepted (outcome a t) → (outcome a t).answer ≡ Made (done_of a t)
+pub accepted_answer : (a : Act) (t : Table) → Accepted (outcome a t) → (outcome a t).answer ≡ Ok (done_of a t)
 accepted_answer a t h = ap (λ (o : EditOutcome). o.answer) (fits_outcome a t (accepted_fits a t h))
 
 -- and leaves the table that they say
@@ -82,11 +80,11 @@ pub accepted_table : (a : Act) (t : Table) → Accepted (outcome a t) → (outco
 accepted_table a t h = ap (λ (o : EditOutcome). o.table) (fits_outcome a t (accepted_fits a t h))
 
 -- so what holds of these holds of the call's own answer and table
-pub accepted_has : (P : Done → Table → Type 0) (a : Act) (t : Table) (d : Done) → (outcome a t).answer ≡ Made d
+pub accepted_has : (P : Done → Table → Type 0) (a : Act) (t : Table) (d : Done) → (outcome a t).answer ≡ Ok d
     → (Fits a t → P (done_of a t) (table_after a t)) → P d (outcome a t).table
 accepted_has P a t d e h =
     let o : Accepted (outcome a t) = (d, e) in
-    let q : Made (done_of a t) ≡ Made d = sym (accepted_answer a t o) ∙ e in
+    let q : Ok (done_of a t) ≡ Ok d = sym (accepted_answer a t o) ∙ e in
     subst₂ P (cc) (sym (accepted_table a t o)) (h (accepted_fits a t o))
 
 -- ── the table after an edit ──

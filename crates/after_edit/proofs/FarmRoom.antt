@@ -16,13 +16,14 @@ use Rattle.tree.specs.Tree.{parent, above, ancestor, other_root}
 use Rattle.tree.specs.Edit.{opened, changed, gap_of, inserted, insert_done}
 use Rattle.tree.specs.Refusal.{given, given_at, next, table_check, key_check, bad_piece, insert_check}
 use Rattle.tree.specs.Outcome.{edit_if, edit_check, insert_outcome}
-use Rattle.tree.specs.declared.Edited.TheVariants.{Made, Refused}
 use Rattle.tree.proofs.FarmCalls.{farm, leaf, leaf_of, twig}
 use Rattle.tree.proofs.FarmSpare.{spared, same_farm}
 use Rattle.after_edit.specs.Act.{insertion, deletion, renaming, outcome}
 use Rattle.after_edit.specs.Independent.{Independent, in_turn}
 use Rattle.after_edit.proofs.EitherOrder.{either_order}
 use Rattle.after_edit.proofs.InUseLaws.{in_use_edit}
+use Rattle.std.specs.Prelude.{Ok, Err}
+use Rattle.tree.specs.declared.Refusal.TheVariants.{KeyTaken, NoRoom}
 
 -- ── two insertions ──
 -- the two leaves have different keys
@@ -54,16 +55,16 @@ pub leaves_same : SameRows (in_turn (insertion 21 leaf) (insertion 31 (leaf_of 5
 leaves_same = (either_order (insertion 21 leaf) (insertion 31 (leaf_of 51)) farm leaves_independent).2
 
 -- the same key in both pieces: the second of the two is refused with 13
-pub key_refused : ((in_turn (insertion 21 leaf) (insertion 31 leaf) farm).answer ≡ Refused 13 0)
-    × ((in_turn (insertion 31 leaf) (insertion 21 leaf) farm).answer ≡ Refused 13 0)
+pub key_refused : ((in_turn (insertion 21 leaf) (insertion 31 leaf) farm).answer ≡ Err (KeyTaken 0))
+    × ((in_turn (insertion 31 leaf) (insertion 21 leaf) farm).answer ≡ Err (KeyTaken 0))
 unfolding least some_below nearest shortest count_ok level_ok run_of size_of size_ok kind_ok has_name name_ok row_of key_ok
     beside_key_ok row_ok first_bad parent above ancestor other_root given given_at next table_check key_check bad_piece
     insert_check edit_if edit_check insert_outcome opened changed gap_of inserted
 key_refused = (refl, refl)
 
 -- three rows in all, where there is room for two: the second of the two is refused with 14
-pub third_refused : ((in_turn (insertion 21 (leaf_of 60)) (insertion 31 twig) farm).answer ≡ Refused 14 0)
-    × ((in_turn (insertion 31 twig) (insertion 21 (leaf_of 60)) farm).answer ≡ Refused 14 0)
+pub third_refused : ((in_turn (insertion 21 (leaf_of 60)) (insertion 31 twig) farm).answer ≡ Err NoRoom)
+    × ((in_turn (insertion 31 twig) (insertion 21 (leaf_of 60)) farm).answer ≡ Err NoRoom)
 unfolding least some_below nearest shortest count_ok level_ok run_of size_of size_ok kind_ok has_name name_ok row_of key_ok
     beside_key_ok row_ok first_bad parent above ancestor other_root given given_at next table_check key_check bad_piece
     insert_check edit_if edit_check insert_outcome opened changed gap_of inserted
@@ -76,8 +77,8 @@ unfolding shortest
 same_room = (in_use_edit farm (spared (1 ∷ 2 ∷ [])) (same_farm (1 ∷ 2 ∷ [])) (insertion 31 leaf) refl).0
 
 -- one column has no room: another answer
-pub less_room : ((outcome (insertion 31 leaf) farm).answer ≡ Made (insert_done farm 7 leaf))
-    × ((outcome (insertion 31 leaf) (spared [])).answer ≡ Refused 14 0)
+pub less_room : ((outcome (insertion 31 leaf) farm).answer ≡ Ok (insert_done farm 7 leaf))
+    × ((outcome (insertion 31 leaf) (spared [])).answer ≡ Err NoRoom)
 unfolding least some_below nearest shortest count_ok level_ok run_of size_of size_ok kind_ok has_name name_ok row_of key_ok
     beside_key_ok row_ok first_bad parent above ancestor other_root given given_at next table_check key_check bad_piece
     insert_check edit_if edit_check insert_outcome

@@ -20,7 +20,6 @@ use Rattle.tree.specs.Edit.{opened, closed, gap_of, inserted, deleted, renamed, 
 use Rattle.tree.specs.Edit.{rename_done}
 use Rattle.tree.specs.Outcome.{find_outcome, found_at}
 use Rattle.tree.specs.declared.Done.{Done}
-use Rattle.tree.specs.declared.Edited.TheVariants.{Made}
 use Rattle.tree.proofs.SoundLaws.{sound_descendants}
 use Rattle.tree.proofs.AcceptLaws.{insert_passes, neither}
 use Rattle.tree.proofs.ColumnLaws.{opened_stays, opened_moves, closed_stays, closed_moves, changed_at, length_changed}
@@ -31,6 +30,7 @@ use Rattle.after_edit.specs.Act.{Act, insertion, deletion, renaming, outcome, Ac
 use Rattle.after_edit.specs.Act.{table_after, done_of}
 use Rattle.after_edit.specs.Survives.{moved_to, goes, Survives}
 use Rattle.after_edit.proofs.ActLaws.{Fits, accepted_fits, accepted_table, accepted_has, after_sound}
+use Rattle.std.specs.Prelude.{Ok}
 
 -- after an accepted edit the table is sound
 pub edited_sound : (a : Act) (t : Table) → Accepted (outcome a t) → Sound (outcome a t).table
@@ -199,14 +199,14 @@ after_row (renaming k m) t f i l g =
     )
 
 -- each row that was not deleted stands again where the answer says, and holds what 01 says
-pub row_again : (a : Act) (t : Table) (d : Done) → (outcome a t).answer ≡ Made d
+pub row_again : (a : Act) (t : Table) (d : Done) → (outcome a t).answer ≡ Ok d
     → (i : ℕ) → i < t.count → goes a t i ≡ false → (w : ℕ) × Survives a d t (outcome a t).table i w
 row_again a t d e i l g =
     accepted_has (λ (d : Done) (u : Table). (w : ℕ) × Survives a d t u i w) a t d e (λ f. after_row a t f i l g)
 
 -- ── the key again ──
 -- each key that was not deleted is found again at the row that the answer's first moved row and move say
-pub found_again : (a : Act) (t : Table) (d : Done) → (outcome a t).answer ≡ Made d
+pub found_again : (a : Act) (t : Table) (d : Done) → (outcome a t).answer ≡ Ok d
     → (k i : ℕ) → find_outcome t k ≡ found_at t i → goes a t i ≡ false
     → (w : ℕ) × (pos w ≡ moved_to d i) × (find_outcome (outcome a t).table k ≡ found_at (outcome a t).table w)
 found_again a t d e k i q g =

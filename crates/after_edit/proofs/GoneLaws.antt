@@ -13,10 +13,9 @@ use Rattle.tree.specs.Sound.{row_of}
 use Rattle.tree.specs.Rules.{Sound}
 use Rattle.tree.specs.EditRules.{NoKey}
 use Rattle.tree.specs.Edit.{closed, gap_of, deleted}
-use Rattle.tree.specs.Outcome.{found_if, located, find_outcome}
+use Rattle.tree.specs.Refusal.{next}
+use Rattle.tree.specs.Outcome.{located, find_outcome}
 use Rattle.tree.specs.declared.Done.{Done}
-use Rattle.tree.specs.declared.Edited.TheVariants.{Made}
-use Rattle.tree.specs.declared.Found.TheVariants.{Refused as NotFound}
 use Rattle.tree.proofs.SoundLaws.{table_passes, sound_descendants, find_at, either}
 use Rattle.tree.proofs.AcceptLaws.{no_key}
 use Rattle.tree.proofs.ColumnLaws.{closed_stays, closed_moves}
@@ -24,14 +23,16 @@ use Rattle.tree.proofs.EditLaws.{gap_fits}
 use Rattle.after_edit.specs.Act.{Act, insertion, deletion, renaming, outcome, row_named, table_after}
 use Rattle.after_edit.specs.Survives.{goes}
 use Rattle.after_edit.proofs.ActLaws.{Fits, accepted_has, after_sound}
+use Rattle.std.specs.Prelude.{Ok, Err}
+use Rattle.tree.specs.declared.Refusal.TheVariants.{UnknownKey}
 
 -- a key stands in one row only
 one_row : (t : Table) → Sound t → (i j : ℕ) → i < t.count → j < t.count → at t.key i ≡ at t.key j → i ≡ j
 one_row t s i j l m e = sym (find_at t s i l) ∙ ap (row_of t.key t.count) e ∙ find_at t s j m
 
 -- a key that no row of a sound table has is not found
-not_found : (t : Table) → Sound t → (x : ℕ) → NoKey t x → find_outcome t x ≡ NotFound 9 0
-unfolding find_outcome found_if located
+not_found : (t : Table) → Sound t → (x : ℕ) → NoKey t x → find_outcome t x ≡ Err UnknownKey
+unfolding find_outcome next located
 not_found t s x h = rw ((table_passes t).1 s, (no_key t x).1 h)
 
 module _ (t : Table) (k : ℕ) (f : Fits (deletion k) t) (i : ℕ) (l : i < t.count)
@@ -79,8 +80,8 @@ after_gone (deletion k) t f i l g = key_gone t k f i l g
 after_gone (renaming k m) t f i l g = absurd (false≢true g)
 
 -- the key of a row that goes is not found afterwards
-pub gone : (a : Act) (t : Table) (d : Done) → (outcome a t).answer ≡ Made d
-    → (i : ℕ) → i < t.count → goes a t i ≡ true → find_outcome (outcome a t).table (at t.key i) ≡ NotFound 9 0
+pub gone : (a : Act) (t : Table) (d : Done) → (outcome a t).answer ≡ Ok d
+    → (i : ℕ) → i < t.count → goes a t i ≡ true → find_outcome (outcome a t).table (at t.key i) ≡ Err UnknownKey
 gone a t d e i l g =
-    accepted_has (λ (d : Done) (u : Table). find_outcome u (at t.key i) ≡ NotFound 9 0) a t d e
+    accepted_has (λ (d : Done) (u : Table). find_outcome u (at t.key i) ≡ Err UnknownKey) a t d e
     (λ f. not_found (table_after a t) (after_sound a t f) (at t.key i) (after_gone a t f i l g))

@@ -13,7 +13,6 @@ use Rattle.tree.specs.Sound.{row_of}
 use Rattle.tree.specs.Rules.{Sound}
 use Rattle.tree.specs.EditRules.{OtherRoot, InsertFits, RenameFits}
 use Rattle.tree.specs.Tree.{ancestor}
-use Rattle.tree.specs.declared.Checked.TheVariants.{Passed}
 use Rattle.tree.proofs.SoundLaws.{find_at, sound_steps, sound_descendants}
 use Rattle.tree.proofs.TreeLaws.{ancestor_under}
 use Rattle.tree.proofs.AxisLaws.{false_of}
@@ -34,6 +33,7 @@ use Rattle.after_edit.specs.Survives.{goes}
 use Rattle.after_edit.proofs.ActLaws.{own, Fits, edit_of, accepted_fits, after_sound}
 use Rattle.after_edit.proofs.ActLaws.{after_nodes, after_count, after_shortest}
 use Rattle.after_edit.proofs.FoundAgain.{after_row}
+use Rattle.tree.specs.Refusal.{passed}
 
 -- ── keys ──
 -- where a list has none of the keys that an edit brings, it is apart from them
@@ -113,7 +113,7 @@ own_again : (b : Act) (t u : Table) → Fits b t → Sound u → row_named b u <
     → at u.kind (row_named b u) ≡ at t.kind (row_named b t)
     → (DeletesRoot b t → OtherRoot u.level u.count (row_named b u))
     → Apart (brought (edit_of b)) (nodes_of u) → u.count + brings b ≤ 4096 → u.count + brings b ≤ shortest u
-    → own b u ≡ Passed
+    → own b u ≡ passed
 unfolding brought
 own_again (insertion k p) t u f s l v c o n limit room =
     let r : ℕ = row_named (insertion k p) t in

@@ -16,11 +16,8 @@ use Rattle.tree.specs.Sound.{row_of}
 use Rattle.tree.specs.Tree.{other_root}
 use Rattle.tree.specs.Edit.{opened, gap_of, inserted, insert_done, delete_done, rename_done}
 use Rattle.tree.specs.Refusal.{given, given_at, next, table_check, key_check, bad_piece, insert_check, delete_check}
-use Rattle.tree.specs.Refusal.{rename_check}
+use Rattle.tree.specs.Refusal.{rename_check, Checked}
 use Rattle.tree.specs.Outcome.{check_outcome, edit_if, edit_check, insert_outcome}
-use Rattle.tree.specs.declared.Checked.{Checked}
-use Rattle.tree.specs.declared.Checked.TheVariants.{Passed, Refused}
-use Rattle.tree.specs.declared.Edited.TheVariants.{Made}
 use Rattle.tree.proofs.SearchLaws.{least_ext}
 use Rattle.tree.proofs.SoundLaws.{count_ok_lem}
 use Rattle.tree.proofs.RowsInUse.{cut, cut_same, cut_find, cut_count, cut_bad, cut_other, in_use_check}
@@ -33,6 +30,8 @@ use Rattle.after_edit.specs.Spare.{SameRoom}
 use Rattle.after_edit.proofs.ActLaws.{own, Fits, edit_of, outcome_is, fits_accepted, accepted_answer}
 use Rattle.after_edit.proofs.ActLaws.{accepted_table, after_sound, after_nodes}
 use Rattle.after_edit.proofs.InTurnLaws.{same_rows}
+use Rattle.std.specs.Prelude.{Ok, Err}
+use Rattle.tree.specs.declared.Refusal.TheVariants.{DeletesRoot}
 
 -- ── the piece ──
 module _ (p : Table) where
@@ -126,7 +125,7 @@ module _ (t u : Table) (s : SameRows t u) where
       let q : row_of t.key t.count k ≡ row_of u.key u.count k = find_same k in
       let g : at t.level (row_of t.key t.count k) ≡ at u.level (row_of u.key u.count k) =
       at_same _ _ s.level _ _ q l in
-      ap₂ (λ (x : ℕ) (b : Bool). given (eqb x 0 && not b) 15 0) g
+      ap₂ (λ (x : ℕ) (b : Bool). given (eqb x 0 && not b) DeletesRoot) g
       (sym (cut_other t.count t.level (row_of t.key t.count k))
       ∙ ap₂ (λ (x : Table) (r : ℕ). other_root x.level x.count r) (cut_same t u s) q
       ∙ cut_other u.count u.level (row_of u.key u.count k))
@@ -167,14 +166,14 @@ module _ (t u : Table) (s : SameRows t u) where
     where
       go : (c : Checked) → edit_check t (key_of a) (own a t) ≡ c
           → ((outcome a t).answer ≡ (outcome a u).answer) × SameRows (outcome a t).table (outcome a u).table
-      go Passed q =
+      go (Ok v) q =
           let f : Fits a t = (edit_passes t (key_of a) (own a t)).0 q in
           let g : Fits a u = (edit_passes u (key_of a) (own a u)).0 (sym (check_same a e) ∙ q) in
           let x : Accepted (outcome a t) = fits_accepted a t f in
           let y : Accepted (outcome a u) = fits_accepted a u g in (
-            accepted_answer a t x ∙ ap Made (done_same a f.found) ∙ sym (accepted_answer a u y),
+            accepted_answer a t x ∙ ap Ok (done_same a f.found) ∙ sym (accepted_answer a u y),
             rw (accepted_table a t x, accepted_table a u y)
                 (same_rows _ _ (after_sound a t f) (after_sound a u g)
                 (after_nodes a t f ∙ ap (edited (edit_of a) (key_of a)) nodes_in_use ∙ sym (after_nodes a u g))),
           )
-      go (Refused m p) q = rw (outcome_is a t, outcome_is a u, q, sym (check_same a e) ∙ q) (refl, s)
+      go (Err why) q = rw (outcome_is a t, outcome_is a u, q, sym (check_same a e) ∙ q) (refl, s)

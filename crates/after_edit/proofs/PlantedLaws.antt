@@ -19,9 +19,7 @@ use Rattle.tree.specs.Axis.{on_axis}
 use Rattle.tree.specs.Edit.{opened, gap_of, inserted, insert_done}
 use Rattle.tree.specs.Outcome.{find_outcome, found_at, insert_outcome}
 use Rattle.tree.specs.declared.Done.{Done}
-use Rattle.tree.specs.declared.Edited.TheVariants.{Made}
 use Rattle.tree.specs.declared.Located.TheVariants.{Under as Below}
-use Rattle.tree.specs.declared.Found.TheVariants.{At}
 use Rattle.tree.proofs.TreeLaws.{parent_less}
 use Rattle.tree.proofs.SoundLaws.{sound_shape, both, either_left}
 use Rattle.tree.proofs.SubtreeLaws.{child_within, child_is}
@@ -35,6 +33,7 @@ use Rattle.after_edit.specs.Act.{insertion, row_named, table_after, done_of}
 use Rattle.after_edit.specs.Planted.{Planted, LastChild}
 use Rattle.after_edit.proofs.ActLaws.{Fits, accepted_has, after_sound}
 use Rattle.after_edit.proofs.FoundAgain.{edited_sound}
+use Rattle.std.specs.Prelude.{Ok}
 
 -- what g makes of a column holds at each row what g makes of that row
 map_at : (g : ℕ → ℕ) (xs : List ℕ) (i : ℕ) → i < length xs → at (map g xs) i ≡ g (at xs i)
@@ -118,7 +117,7 @@ module _ (t : Table) (k : ℕ) (p : Table) (f : Fits (insertion k p) t) where
       omega (arith, raised w (omega arith) (omega arith)))
 
 -- each row of the piece stands from the first moved row on and holds what it held, its level raised
-pub piece_there : (t : Table) (k : ℕ) (p : Table) (d : Done) → (insert_outcome t k p).answer ≡ Made d
+pub piece_there : (t : Table) (k : ℕ) (p : Table) (d : Done) → (insert_outcome t k p).answer ≡ Ok d
     → (j : ℕ) → j < p.count
     → Planted t (row_of t.key t.count k) p (insert_outcome t k p).table j (d.first + j)
 piece_there t k p d e j l =
@@ -126,7 +125,7 @@ piece_there t k p d e j l =
     (insertion k p) t d e (λ f. after_planted t k p f j l)
 
 -- and is found there by its key
-pub piece_found : (t : Table) (k : ℕ) (p : Table) (d : Done) → (insert_outcome t k p).answer ≡ Made d
+pub piece_found : (t : Table) (k : ℕ) (p : Table) (d : Done) → (insert_outcome t k p).answer ≡ Ok d
     → (j : ℕ) → j < p.count → find_outcome (insert_outcome t k p).table (at p.key j)
     ≡ found_at (insert_outcome t k p).table (d.first + j)
 piece_found t k p d e j l =
@@ -135,16 +134,16 @@ piece_found t k p d e j l =
     ap (find_outcome u) (sym w.key) ∙ find_row u (edited_sound (insertion k p) t (d, e)) (d.first + j) w.in_use
 
 -- the piece becomes the last child of the named row
-pub last_child : (t : Table) (k : ℕ) (p : Table) (d : Done) → (insert_outcome t k p).answer ≡ Made d
+pub last_child : (t : Table) (k : ℕ) (p : Table) (d : Done) → (insert_outcome t k p).answer ≡ Ok d
     → LastChild (insert_outcome t k p).table.level d.count (row_of t.key t.count k) d.first
 last_child t k p d e =
     accepted_has (λ (d : Done) (u : Table). LastChild u.level d.count (row_of t.key t.count k) d.first)
     (insertion k p) t d e (after_last t k p)
 
 -- so its first row is found under that row, one level deeper
-pub piece_under : (t : Table) (k : ℕ) (p : Table) (d : Done) → (insert_outcome t k p).answer ≡ Made d
+pub piece_under : (t : Table) (k : ℕ) (p : Table) (d : Done) → (insert_outcome t k p).answer ≡ Ok d
     → find_outcome (insert_outcome t k p).table (at p.key 0)
-    ≡ At (Below (record {
+    ≡ Ok (Below (record {
       row = d.first;
       level = at t.level (row_of t.key t.count k) + 1;
       parent = row_of t.key t.count k;
@@ -159,7 +158,7 @@ piece_under t k p d e =
     let deep : at u.level d.first ≡ at t.level r + 1 =
     omega (arith, ap (at u.level) first, (piece_there t k p d e 0 some).level) in
     piece_found t k p d e 0 some ∙ ap (found_at u) first
-    ∙ ap At (stands_under u.level d.first r (last_child t k p d e).child
+    ∙ ap Ok (stands_under u.level d.first r (last_child t k p d e).child
     ∙ ap (λ (l : ℕ). Below (record { row = d.first; level = l; parent = r })) deep)
 
 -- in steps: a last child is on the child axis of its parent's row, and has no following sibling in use

@@ -16,7 +16,6 @@ use Rattle.tree.specs.Tree.{ancestor}
 use Rattle.tree.specs.Edit.{opened, closed, gap_of, inserted, deleted, renamed, insert_done, delete_done}
 use Rattle.tree.specs.Edit.{rename_done}
 use Rattle.tree.specs.declared.Done.{Done}
-use Rattle.tree.specs.declared.Edited.TheVariants.{Made}
 use Rattle.tree.proofs.AcceptLaws.{insert_passes, neither_of}
 use Rattle.tree.proofs.ColumnLaws.{opened_spare, closed_freed, closed_spare, changed_not, length_changed}
 use Rattle.tree.proofs.EditLaws.{gap_fits}
@@ -24,6 +23,7 @@ use Rattle.tree.proofs.EditSizes.{ancestor_not}
 use Rattle.after_edit.specs.Act.{Act, insertion, deletion, renaming, outcome, row_named, table_after, done_of}
 use Rattle.after_edit.specs.Spare.{SameAt, ZeroAt, SameLengths}
 use Rattle.after_edit.proofs.ActLaws.{Fits, accepted_has, after_lengths}
+use Rattle.std.specs.Prelude.{Ok}
 
 -- a row that is spare before and after, by the definitions
 after_spare : (a : Act) (t : Table) → Fits a t → (i : ℕ) → t.count ≤ i → (done_of a t).count ≤ i
@@ -90,19 +90,19 @@ after_freed (deletion k) t f i l m =
 after_freed (renaming k m) t f i l n = absurd (omega arith)
 
 -- a row that was spare and still is holds what it held
-pub spare_stays : (a : Act) (t : Table) (d : Done) → (outcome a t).answer ≡ Made d
+pub spare_stays : (a : Act) (t : Table) (d : Done) → (outcome a t).answer ≡ Ok d
     → (i : ℕ) → t.count ≤ i → d.count ≤ i → SameAt t (outcome a t).table i
 spare_stays a t d e i l =
     accepted_has (λ (d : Done) (u : Table). d.count ≤ i → SameAt t u i) a t d e (λ f. after_spare a t f i l)
 
 -- the freed rows, from the new count up to the old one, are zero in all five columns
-pub freed_zero : (a : Act) (t : Table) (d : Done) → (outcome a t).answer ≡ Made d
+pub freed_zero : (a : Act) (t : Table) (d : Done) → (outcome a t).answer ≡ Ok d
     → (i : ℕ) → d.count ≤ i → i < t.count → ZeroAt (outcome a t).table i
 freed_zero a t d e i =
     accepted_has (λ (d : Done) (u : Table). d.count ≤ i → i < t.count → ZeroAt u i) a t d e
     (λ f. after_freed a t f i)
 
 -- every column is as long as it was
-pub lengths_stay : (a : Act) (t : Table) (d : Done) → (outcome a t).answer ≡ Made d
+pub lengths_stay : (a : Act) (t : Table) (d : Done) → (outcome a t).answer ≡ Ok d
     → SameLengths t (outcome a t).table
 lengths_stay a t d e = accepted_has (λ (d : Done) (u : Table). SameLengths t u) a t d e (after_lengths a t)

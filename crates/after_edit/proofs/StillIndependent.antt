@@ -13,7 +13,6 @@ use Rattle.tree.specs.Sound.{row_of}
 use Rattle.tree.specs.Rules.{InUse, Sound}
 use Rattle.tree.specs.Tree.{parent, ancestor}
 use Rattle.tree.specs.declared.Done.{Done}
-use Rattle.tree.specs.declared.Edited.TheVariants.{Made}
 use Rattle.tree.proofs.TreeLaws.{parent_below}
 use Rattle.tree.proofs.SoundLaws.{sound_shape, find_at}
 use Rattle.tree.proofs.AcceptLaws.{neither_of}
@@ -26,6 +25,7 @@ use Rattle.after_edit.proofs.ActLaws.{Fits, accepted_fits}
 use Rattle.after_edit.proofs.FoundAgain.{edited_sound, row_again}
 use Rattle.after_edit.proofs.UnderAgain.{parent_stays, stays_under}
 use Rattle.after_edit.proofs.EitherOrder.{either_order}
+use Rattle.std.specs.Prelude.{Ok}
 
 -- the row of an edit that is independent of a stays where a is done
 named_stays : (a b : Act) (t : Table) → Independent a b t → goes a t (row_named b t) ≡ false
@@ -34,7 +34,7 @@ named_stays (deletion k) b t i = neither_of (ne_eqb _ _ (λ e. i.rows_differ (sy
 named_stays (renaming k m) b t i = refl
 
 -- ── rows after an edit ──
-module _ (a : Act) (t : Table) (d : Done) (e : (outcome a t).answer ≡ Made d) where
+module _ (a : Act) (t : Table) (d : Done) (e : (outcome a t).answer ≡ Ok d) where
   -- both tables are sound
   sound_before : Sound t
   sound_before = (accepted_fits a t (d, e)).sound

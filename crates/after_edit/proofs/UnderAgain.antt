@@ -18,9 +18,7 @@ use Rattle.tree.specs.Edit.{gap_of, insert_done, delete_done, rename_done}
 use Rattle.tree.specs.Outcome.{find_outcome}
 use Rattle.tree.specs.declared.Child.{Child}
 use Rattle.tree.specs.declared.Done.{Done}
-use Rattle.tree.specs.declared.Edited.TheVariants.{Made}
 use Rattle.tree.specs.declared.Located.TheVariants.{Root, Under as Below}
-use Rattle.tree.specs.declared.Found.TheVariants.{At}
 use Rattle.tree.proofs.TreeLaws.{is_parent, parent_is, parent_below, parent_less}
 use Rattle.tree.proofs.SoundLaws.{sound_shape, sound_descendants, shape_fits, either, either_left}
 use Rattle.tree.proofs.SoundLaws.{either_right}
@@ -33,6 +31,7 @@ use Rattle.after_edit.specs.Act.{Act, insertion, deletion, renaming, outcome, ro
 use Rattle.after_edit.specs.Survives.{moved_to, goes, resizes, Survives}
 use Rattle.after_edit.proofs.ActLaws.{Fits, accepted_has, after_sound}
 use Rattle.after_edit.proofs.FoundAgain.{edited_sound, plus_minus, after_gap, row_again}
+use Rattle.std.specs.Prelude.{Ok}
 
 -- ── what goes and what stays ──
 -- the parent of a row that stays stays
@@ -182,7 +181,7 @@ module _ (a : Act) (t : Table) (d : Done) (u : Table) (h : Shifts a t d) where
           ]
 
 -- where a row and its parent stand after an accepted edit, the one is the parent of the other
-pub stays_under : (a : Act) (t : Table) (d : Done) → (outcome a t).answer ≡ Made d
+pub stays_under : (a : Act) (t : Table) (d : Done) → (outcome a t).answer ≡ Ok d
     → (i p : ℕ) → i < t.count → parent t.level i ≡ suc p → goes a t i ≡ false
     → (w v : ℕ) → Survives a d t (outcome a t).table i w → Survives a d t (outcome a t).table p v
     → parent (outcome a t).table.level w ≡ suc v
@@ -200,9 +199,9 @@ stays_under a t d e i p l q g =
 -- ── the key again ──
 -- a key that was found under a row, and whose row stays, is found again at its level under the row of the same key,
 -- both where the answer says
-pub under_again : (a : Act) (t : Table) (d : Done) → (outcome a t).answer ≡ Made d
-    → (k : ℕ) (c : Child) → find_outcome t k ≡ At (Below c) → goes a t c.row ≡ false
-    → (b : Child) × (find_outcome (outcome a t).table k ≡ At (Below b)) × (b.level ≡ c.level)
+pub under_again : (a : Act) (t : Table) (d : Done) → (outcome a t).answer ≡ Ok d
+    → (k : ℕ) (c : Child) → find_outcome t k ≡ Ok (Below c) → goes a t c.row ≡ false
+    → (b : Child) × (find_outcome (outcome a t).table k ≡ Ok (Below b)) × (b.level ≡ c.level)
     × (at (outcome a t).table.key b.parent ≡ at t.key c.parent)
     × (pos b.row ≡ moved_to d c.row) × (pos b.parent ≡ moved_to d c.parent)
 under_again a t d e k c q g =
@@ -228,9 +227,9 @@ under_again a t d e k c q g =
     )
 
 -- a key that was found as a root that stays is found again as a root, where the answer says
-pub root_again : (a : Act) (t : Table) (d : Done) → (outcome a t).answer ≡ Made d
-    → (k i : ℕ) → find_outcome t k ≡ At (Root i) → goes a t i ≡ false
-    → (w : ℕ) × (find_outcome (outcome a t).table k ≡ At (Root w)) × (pos w ≡ moved_to d i)
+pub root_again : (a : Act) (t : Table) (d : Done) → (outcome a t).answer ≡ Ok d
+    → (k i : ℕ) → find_outcome t k ≡ Ok (Root i) → goes a t i ≡ false
+    → (w : ℕ) × (find_outcome (outcome a t).table k ≡ Ok (Root w)) × (pos w ≡ moved_to d i)
 root_again a t d e k i q g =
     let (s, l, key, level) = (find_root t k i).0 q in
     let (w, x) = row_again a t d e i l g in (

@@ -1,12 +1,11 @@
 -- An edit as one thing: RULES 01, "Finding and editing by key". Its outcome, when it is accepted, what it names and
 -- brings. Assumes nothing.
-use Rattle.std.specs.Prelude.{ℕ, ◌≡◌, List, []}
+use Rattle.std.specs.Prelude.{ℕ, ◌≡◌, List, [], Ok}
 use Rattle.tree.specs.Table.{Table}
 use Rattle.tree.specs.Sound.{row_of}
 use Rattle.tree.specs.Edit.{inserted, deleted, renamed, insert_done, delete_done, rename_done}
 use Rattle.tree.specs.Outcome.{EditOutcome, insert_outcome, delete_outcome, rename_outcome}
 use Rattle.tree.specs.declared.Done.{Done}
-use Rattle.tree.specs.declared.Edited.TheVariants.{Made}
 
 -- an insertion: the parent's key and the piece; a deletion: the key; a renaming: the key and the new name
 pub data Act : Type 0 where
@@ -22,7 +21,7 @@ outcome (renaming k m) t = rename_outcome t k m
 
 -- it was accepted: the answer is no refusal
 abbrev pub Accepted : EditOutcome → Type 0
-Accepted o = (d : Done) × (o.answer ≡ Made d)
+Accepted o = (d : Done) × (o.answer ≡ Ok d)
 
 -- the key that the edit names
 abbrev pub key_of : Act → ℕ

@@ -1,11 +1,11 @@
 -- What finding a key answers, as a struct for C: include/reach.h, reach_found; RULES 02, E3. A root has no parent, and
 -- -1 in its place. Refusal 0 is acceptance; on a refusal the row, the level and the parent are 0. Assumes nothing.
-use Rattle.std.specs.Prelude.{ℕ, pos, negsuc}
+use Rattle.std.specs.Prelude.{ℕ, pos, negsuc, Ok, Err}
 use Rattle.tree.specs.declared.Located.{Located}
 use Rattle.tree.specs.declared.Located.TheVariants.{Root, Under}
-use Rattle.tree.specs.declared.Found.{Found}
-use Rattle.tree.specs.declared.Found.TheVariants.{At, Refused as NotFound}
 use Rattle.answer.specs.declared.FoundAnswer.{FoundAnswer}
+use Rattle.tree.specs.Outcome.{Found}
+use Rattle.tree.specs.Number.{number, place}
 
 -- a root, or a row with its level and its parent's row
 unfoldable pub located_answer : Located → FoundAnswer
@@ -15,8 +15,8 @@ located_answer (Under c) =
 
 -- what was found, or the refusal
 unfoldable pub find_answer : Found → FoundAnswer
-find_answer (At l) = located_answer l
-find_answer (NotFound n p) = record { refusal = n; place = p; row = 0; level = 0; parent = pos 0 }
+find_answer (Ok l) = located_answer l
+find_answer (Err why) = record { refusal = number why; place = place why; row = 0; level = 0; parent = pos 0 }
 
 -- ── no contract of an entry point cites these ──
 -- the parent's row, 0 where there is none: that it is small makes it a signed number
@@ -25,5 +25,5 @@ parent_in (Root r) = 0
 parent_in (Under c) = c.parent
 
 abbrev pub parent_found : Found → ℕ
-parent_found (At l) = parent_in l
-parent_found (NotFound n p) = 0
+parent_found (Ok l) = parent_in l
+parent_found (Err why) = 0

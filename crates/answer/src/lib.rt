@@ -7,7 +7,7 @@ ghost use Rattle.answer.specs.Answer.{batch_answer};
 ghost use Rattle.answer.specs.Found.{parent_in, parent_found, located_answer, find_answer};
 ghost use Rattle.answer.specs.Version.{version};
 
-use tree::{Batched, Carried, Checked, Edited, Found, Located, Stepped};
+use tree::{Batched, Done, Located, Refusal, Tally};
 
 #[repr(C)]
 #[derive(Clone, Copy)]
@@ -43,25 +43,15 @@ fn accept(first: usize, second: usize, moved: i64) -> Answer
 }
 
 // A refusal, with its number and place.
-fn refuse(number: usize, place: usize) -> Answer
-    ensures { result ≡ refused number place }
+fn refuse(why: Refusal) -> Answer
+    ensures { result ≡ refused why }
 {
     Answer {
-        refusal: number,
-        place,
+        refusal: why.number(),
+        place: why.place(),
         first: 0,
         second: 0,
         moved: 0,
-    }
-}
-
-// What a check answers.
-pub fn of_check(checked: Checked) -> Answer
-    ensures { result ≡ check_answer checked }
-{
-    match checked {
-        Checked::Passed => accept(0, 0, 0),
-        Checked::Refused(number, place) => refuse(number, place),
     }
 }
 
@@ -91,16 +81,18 @@ fn of_located(located: Located) -> FoundAnswer
     }
 }
 
-// What finding a key answers: the row, its level and its parent's row.
-pub fn of_find(found: Found) -> FoundAnswer
+// What finding a key answers: the row, its level and its parent's row. It asks for a parent that is small, which
+// makes it a signed number, so it is no `From`.
+#[tactic(auto, unfolding(crate::specs::Found::find_answer))]
+pub fn of_find(found: Result<Located, Refusal>) -> FoundAnswer
     requires { parent_found found ≤ 4096 }
     ensures { result ≡ find_answer found }
 {
     match found {
-        Found::At(located) => of_located(located),
-        Found::Refused(number, place) => FoundAnswer {
-            refusal: number,
-            place,
+        Ok(located) => of_located(located),
+        Err(why) => FoundAnswer {
+            refusal: why.number(),
+            place: why.place(),
             row: 0,
             level: 0,
             parent: 0,
@@ -108,50 +100,60 @@ pub fn of_find(found: Found) -> FoundAnswer
     }
 }
 
+// What a check answers.
+#[tactic(auto, unfolding(crate::specs::Answer::check_answer))]
+impl From<Result<(), Refusal>> for Answer {
+    ghost from_gives = { λ checked answer. answer ≡ check_answer checked };
+
+    fn from(checked: Result<(), Refusal>) -> Answer {
+        checked.map_or_else(refuse, |()| accept(0, 0, 0))
+    }
+}
+
 // What a step answers: the number of results first, then the kept count.
-pub fn of_step(stepped: Stepped) -> Answer
-    ensures { result ≡ step_answer stepped }
-{
-    match stepped {
-        Stepped::Listed(results, kept) => accept(results, kept, 0),
-        Stepped::Refused(number, place) => refuse(number, place),
+#[tactic(auto, unfolding(crate::specs::Answer::step_answer))]
+impl From<Result<Tally, Refusal>> for Answer {
+    ghost from_gives = { λ stepped answer. answer ≡ step_answer stepped };
+
+    fn from(stepped: Result<Tally, Refusal>) -> Answer {
+        stepped.map_or_else(refuse, |tally| accept(tally.listed, tally.kept, 0))
     }
 }
 
 // What an edit answers: the new count first, then the first moved row, and the move.
-pub fn of_edit(edited: Edited) -> Answer
-    ensures { result ≡ edit_answer edited }
-{
-    match edited {
-        Edited::Made(done) => accept(done.count, done.first, done.moved),
-        Edited::Refused(number, place) => refuse(number, place),
+#[tactic(auto, unfolding(crate::specs::Answer::edit_answer))]
+impl From<Result<Done, Refusal>> for Answer {
+    ghost from_gives = { λ edited answer. answer ≡ edit_answer edited };
+
+    fn from(edited: Result<Done, Refusal>) -> Answer {
+        edited.map_or_else(refuse, |done| accept(done.count, done.first, done.moved))
     }
 }
 
 // What carrying answers: the number of pairs first.
-pub fn of_carry(carried: Carried) -> Answer
-    ensures { result ≡ carry_answer carried }
-{
-    match carried {
-        Carried::Written(pairs) => accept(pairs, 0, 0),
-        Carried::Refused(number, place) => refuse(number, place),
+#[tactic(auto, unfolding(crate::specs::Answer::carry_answer))]
+impl From<Result<usize, Refusal>> for Answer {
+    ghost from_gives = { λ carried answer. answer ≡ carry_answer carried };
+
+    fn from(carried: Result<usize, Refusal>) -> Answer {
+        carried.map_or_else(refuse, |pairs| accept(pairs, 0, 0))
     }
 }
 
 // What a list of changes answers: how many were done first, then the count, on a refusal too.
-pub fn of_batch(batched: Batched) -> Answer
-    ensures { result ≡ batch_answer batched }
-{
-    let end = batched.end;
-    match end {
-        Checked::Passed => accept(batched.done, batched.count, 0),
-        Checked::Refused(refusal, at) => Answer {
-            refusal,
-            place: at,
-            first: batched.done,
-            second: batched.count,
-            moved: 0,
-        },
+#[tactic(auto, unfolding(crate::specs::Answer::end_answer))]
+impl From<Batched> for Answer {
+    ghost from_gives = { λ batched answer. answer ≡ batch_answer batched };
+
+    fn from(batched: Batched) -> Answer {
+        match batched.end {
+            Ok(()) => accept(batched.done, batched.count, 0),
+            Err(why) => Answer {
+                first: batched.done,
+                second: batched.count,
+                ..refuse(why)
+            },
+        }
     }
 }
 

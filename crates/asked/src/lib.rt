@@ -6,7 +6,7 @@ ghost use Rattle.tree.specs.Axis.{axis_ok};
 ghost use Rattle.tree.specs.Test.{test_ok};
 ghost use Rattle.tree.specs.Refusal.{ask_check};
 
-use tree::{Ask, Checked};
+use tree::{Ask, Refusal};
 
 // Whether the axis code is known.
 #[tactic(auto, using(std::proofs::lemmas::Bool::Decides::nat_tests), unfolding(tree::specs::Axis::axis_ok))]
@@ -31,14 +31,14 @@ fn test_ok(test: usize, name: usize) -> bool
 }
 
 // Refusal 6 or 7, or that the codes are right.
-pub fn check_ask(ask: Ask) -> Checked
+pub fn check_ask(ask: Ask) -> Result<(), Refusal>
     ensures { result ≡ ask_check ask }
 {
     if !axis_ok(ask.axis) {
-        return Checked::Refused(6, 0);
+        return Err(Refusal::BadAxis);
     }
     if !test_ok(ask.test, ask.name) {
-        return Checked::Refused(7, 0);
+        return Err(Refusal::BadTest);
     }
-    Checked::Passed
+    Ok(())
 }

@@ -1,11 +1,8 @@
 -- What the step of one role asks for and leaves, on any axis. Assumes nothing.
-use Rattle.std.specs.Prelude.{◌≡◌, Bool, true, ◌||◌, List, ℕ, eqb}
-use Rattle.tree.specs.Axis.{axis_ok}
-use Rattle.scan.specs.OneRole.{one_role, RoleIn, Wrote}
-use Rattle.scan.specs.Want.{fits}
-use Rattle.links.specs.Links.{UpFor}
+use Rattle.std.specs.Prelude.{Bool, ◌||◌, List, ℕ, eqb}
+use Rattle.scan.specs.OneRole.{reached, RoleIn, Wrote}
 use Rattle.marks.specs.RowSet.{Blank}
-use Rattle.scan.specs.declared.want.Want.{Want}
+use Rattle.links.specs.declared.walk.Walk.{Walk}
 
 -- the axes whose rows come out as ranges
 unfoldable pub ranged_axis : ℕ → Bool
@@ -19,16 +16,12 @@ above_axis axis = eqb axis 6 || eqb axis 7
 unfoldable pub marked_axis : ℕ → Bool
 marked_axis axis = eqb axis 2 || (eqb axis 5 || (eqb axis 10 || eqb axis 11))
 
--- an axis, trees, what the axis follows in them, contexts, an empty set and room for the rows
-pub record RoleAsk (axis : ℕ) (size level kind name : List ℕ) (n : ℕ) (up cs : List ℕ) (want : Want)
-    (words out : List ℕ) : Type 0 where
-  pub known : axis_ok axis ≡ true
-  pub asks : RoleIn axis size level kind name n cs want out
-  pub links : UpFor axis level n up
+-- contexts, an empty set and room for the rows
+pub record RoleAsk (walk : Walk) (cs words out : List ℕ) : Type 0 where
+  pub asks : RoleIn walk.axis walk.trees walk.test cs out
   pub blank : Blank words
 
 -- the rows in front of out, and the set empty again
-pub record RoleDone (axis : ℕ) (level kind name : List ℕ) (n : ℕ) (cs : List ℕ) (want : Want)
-    (words old : List ℕ) (r : ℕ) (new : List ℕ) : Type 0 where
-  pub wrote : Wrote (one_role axis level n (fits want kind name) cs) old r new
+pub record RoleDone (walk : Walk) (cs words old : List ℕ) (r : ℕ) (new : List ℕ) : Type 0 where
+  pub wrote : Wrote (reached walk.axis walk.trees walk.test cs) old r new
   pub blank : Blank words

@@ -8,14 +8,14 @@ ghost use Rattle.std.specs.Prelude.{◌≡◌, ◌↔◌, true, ◌&&◌, ◌||�
 pub fn both(a: bool, b: bool) -> bool
     ensures { result ≡ (a && b) }
 {
-    if a { b } else { false }
+    a & b
 }
 
 // Whether one of them holds.
 pub fn either(a: bool, b: bool) -> bool
     ensures { result ≡ (a || b) }
 {
-    if a { true } else { b }
+    a | b
 }
 
 // Whether a column has the number x from one place up to another. All places are looked at, without a branch.
@@ -25,10 +25,8 @@ pub fn one_of(column: &[usize], from: usize, to: usize, x: usize) -> bool
         ↔ ((j : ℕ) × (from ≤ j) × (j < to) × (get_or column.now j 0 ≡ x)) }
 {
     let mut met = false;
-    let mut k = from;
-    while k < to {
-        met = either(met, column[k] == x);
-        k += 1;
+    for &c in &column[from..to] {
+        met |= c == x;
     }
     met
 }
@@ -37,12 +35,12 @@ pub fn one_of(column: &[usize], from: usize, to: usize, x: usize) -> bool
 pub fn smaller(a: usize, b: usize) -> usize
     ensures { result ≡ min a b }
 {
-    if a <= b { a } else { b }
+    a.min(b)
 }
 
 // The greater of two numbers.
 pub fn greater(a: usize, b: usize) -> usize
     ensures { result ≡ max a b }
 {
-    if a < b { b } else { a }
+    a.max(b)
 }

@@ -13,13 +13,9 @@ use lib.Dec.{eqb}
 use lib.ListN.{length, take}
 use lib.Seq.{take-length}
 use Rattle.tree.specs.Table.{Table, SameRows}
-use Rattle.tree.specs.Outcome.{EditOutcome}
+use Rattle.tree.specs.Outcome.{EditOutcome, Edited}
 use Rattle.tree.specs.Batch.{items_of, item_outcome, BatchOutcome, ended, one_by_one, batch_check, batch_outcome}
 use Rattle.tree.specs.declared.Batched.{Batched}
-use Rattle.tree.specs.declared.Checked.{Checked}
-use Rattle.tree.specs.declared.Checked.TheVariants.{Passed, Refused}
-use Rattle.tree.specs.declared.Edited.{Edited}
-use Rattle.tree.specs.declared.Edited.TheVariants.{Made, Refused as NotMade}
 use Rattle.tree.specs.declared.Item.{Item}
 use Rattle.after_edit.specs.Act.{deletion, renaming, outcome, Accepted, brings}
 use Rattle.after_edit.specs.Independent.{Independent, in_turn}
@@ -33,6 +29,8 @@ use Rattle.after_edit.proofs.StillIndependent.{still_independent}
 use Rattle.batch.proofs.ItemLaws.{item_act}
 use Rattle.batch.proofs.EndsLaws.{after_made, after_refused}
 use Rattle.batch.proofs.BatchLaws.{list_longest, list_all_done, batch_is}
+use Rattle.tree.specs.Refusal.{Checked, passed}
+use Rattle.std.specs.Prelude.{Ok, Err}
 
 -- ── spare rows are not read ──
 -- no item asks for room
@@ -58,7 +56,7 @@ ended_alike n end t u s = record { answer = ap answered s.count; rows = s }
 -- and so does a list
 pub in_use_list : (is : List Item) (n : ℕ) (t u : Table) → SameRows t u → EndAlike (one_by_one n is t) (one_by_one n is u)
 unfolding one_by_one
-in_use_list [] n t u s = ended_alike n Passed t u s
+in_use_list [] n t u s = ended_alike n passed t u s
 in_use_list (i ∷ is) n t u s =
     go (item_outcome t i).answer refl (in_use_item t u s i) (λ r. in_use_list is (suc n) _ _ r)
   where
@@ -68,12 +66,12 @@ in_use_list (i ∷ is) n t u s =
         → (SameRows (item_outcome t i).table (item_outcome u i).table
         → EndAlike (one_by_one (suc n) is (item_outcome t i).table) (one_by_one (suc n) is (item_outcome u i).table))
         → EndAlike (one_by_one n (i ∷ is) t) (one_by_one n (i ∷ is) u)
-    go (Made d) e h next =
+    go (Ok d) e h next =
         subst₂ EndAlike (sym (after_made n i is t (d, e))) (sym (after_made n i is u (d, sym h.0 ∙ e)))
         (next h.1)
-    go (NotMade m p) e h next =
-        subst₂ EndAlike (sym (after_refused n i is t m p e)) (sym (after_refused n i is u m p (sym h.0 ∙ e)))
-        (ended_alike n (Refused m p) t u s)
+    go (Err why) e h next =
+        subst₂ EndAlike (sym (after_refused n i is t why e)) (sym (after_refused n i is u why (sym h.0 ∙ e)))
+        (ended_alike n (Err why) t u s)
 
 -- ── two neighbours ──
 -- what comes after a front that is all accepted
@@ -121,8 +119,8 @@ neighbours before after a b t h i =
 
 -- the same of the public call, on two lists that differ by such an exchange
 pub batch_neighbours : (t : Table) (code key name code' key' name' : List ℕ) (before after : List Item) (a b : Item)
-    → batch_check t code key name ≡ Passed → items_of code key name ≡ before ++ a ∷ b ∷ after
-    → batch_check t code' key' name' ≡ Passed → items_of code' key' name' ≡ before ++ b ∷ a ∷ after
+    → batch_check t code key name ≡ passed → items_of code key name ≡ before ++ a ∷ b ∷ after
+    → batch_check t code' key' name' ≡ passed → items_of code' key' name' ≡ before ++ b ∷ a ∷ after
     → AllAccepted before t → Independent (act_of a) (act_of b) (table_after_all before t)
     → EndAlike (batch_outcome t code key name) (batch_outcome t code' key' name')
 batch_neighbours t code key name code' key' name' before after a b p x q y h i =
@@ -212,7 +210,7 @@ any_order (later {i} {is} {js} r) n t p =
 any_order (twice r q) n t p = alike_alike (any_order r n t p) (any_order q n t (pairwise_reordered r t p))
 
 -- all of them are done, in any order
-pub pairwise_done : (is : List Item) (t : Table) → Pairwise is t → (one_by_one 0 is t).answer.end ≡ Passed
+pub pairwise_done : (is : List Item) (t : Table) → Pairwise is t → (one_by_one 0 is t).answer.end ≡ passed
 pairwise_done is t p =
     let h : AllAccepted (take (length is) is) t = rw take-length (pairwise_accepted is t p) in
     let l = ((list_longest is t).longest (length is) (omega arith)).0 h in
@@ -221,9 +219,9 @@ pairwise_done is t p =
 
 -- the same of the public call, on two lists of the same items
 pub batch_any_order : (t : Table) (code key name code' key' name' : List ℕ)
-    → batch_check t code key name ≡ Passed → batch_check t code' key' name' ≡ Passed
+    → batch_check t code key name ≡ passed → batch_check t code' key' name' ≡ passed
     → Reordered (items_of code key name) (items_of code' key' name') → Pairwise (items_of code key name) t
-    → ((batch_outcome t code key name).answer.end ≡ Passed)
+    → ((batch_outcome t code key name).answer.end ≡ passed)
     × EndAlike (batch_outcome t code key name) (batch_outcome t code' key' name')
 batch_any_order t code key name code' key' name' p q r h =
     rw (batch_is t code key name p, batch_is t code' key' name' q)

@@ -21,9 +21,6 @@ use Rattle.tree.specs.Rules.{Sound}
 use Rattle.tree.specs.RefusalRules.{GoodList}
 use Rattle.tree.specs.Batch.{items_of, item_outcome, BatchOutcome, ended, one_by_one}
 use Rattle.tree.specs.Batch.{batch_check, batch_if, batch_outcome}
-use Rattle.tree.specs.declared.Checked.{Checked}
-use Rattle.tree.specs.declared.Checked.TheVariants.{Passed, Refused}
-use Rattle.tree.specs.declared.Edited.TheVariants.{Refused as NotMade}
 use Rattle.tree.specs.declared.Item.{Item}
 use Rattle.tree.proofs.BatchRefusals.{batch_passes, batch_refused}
 use Rattle.batch.specs.Prefix.{table_after_all, LongestAccepted, RefusedAt, item_at}
@@ -33,6 +30,9 @@ use Rattle.batch.proofs.EndsLaws.{ends_table, ends_refused, ends_sound, calls_en
 -- the call of an item is that of the edit that it asks for
 pub use Rattle.batch.proofs.ItemLaws.{item_act}
 use Rattle.batch.proofs.ItemLaws.{columns}
+use Rattle.tree.specs.Refusal.{Checked, passed}
+use Rattle.std.specs.Prelude.{Ok, Err}
+use Rattle.tree.specs.declared.Refusal.{Refusal}
 
 -- ── the list ──
 module _ (is : List Item) (t : Table) where
@@ -41,7 +41,7 @@ module _ (is : List Item) (t : Table) where
   list_longest = record { within = ends_within (ends is t); longest = ends_longest (ends is t) }
 
   -- all are done exactly if no refusal ended the list
-  pub list_all_done : ((one_by_one 0 is t).answer.end ≡ Passed) ↔ ((one_by_one 0 is t).answer.done ≡ length is)
+  pub list_all_done : ((one_by_one 0 is t).answer.end ≡ passed) ↔ ((one_by_one 0 is t).answer.done ≡ length is)
   list_all_done = ends_all (ends is t)
 
   -- the table is the one that the items done leave
@@ -49,8 +49,8 @@ module _ (is : List Item) (t : Table) where
   list_table = ends_table (ends is t)
 
   -- the item that was refused answers on that table what ended the list, and leaves it as it is
-  pub list_refused_item : (m p : ℕ) → (one_by_one 0 is t).answer.end ≡ Refused m p
-      → RefusedAt is (one_by_one 0 is t).answer.done (one_by_one 0 is t).table m p
+  pub list_refused_item : (why : Refusal) → (one_by_one 0 is t).answer.end ≡ Err why
+      → RefusedAt is (one_by_one 0 is t).answer.done (one_by_one 0 is t).table why
   list_refused_item = ends_refused (ends is t)
 
   -- the table is sound afterwards
@@ -62,7 +62,7 @@ module _ (is : List Item) (t : Table) where
 module _ (t : Table) (code key name : List ℕ) where
   -- ── the check ──
   -- where it passes the calls are made
-  pub batch_is : batch_check t code key name ≡ Passed
+  pub batch_is : batch_check t code key name ≡ passed
       → batch_outcome t code key name ≡ one_by_one 0 (items_of code key name) t
   unfolding batch_outcome batch_if
   batch_is h = rw h
@@ -77,12 +77,12 @@ module _ (t : Table) (code key name : List ℕ) where
 
       go : (c : Checked) → batch_check t code key name ≡ c
           → (batch_outcome t code key name).answer.count ≡ (batch_outcome t code key name).table.count
-      go Passed e =
+      go (Ok u) e =
           let (k, end, last, x) = ends_there (items_of code key name) t in
           counts _ _ (batch_is e ∙ ends_are x 0) refl
-      go (Refused m p) e = counts _ _ (batch_refused t code key name m p e) refl
+      go (Err why) e = counts _ _ (batch_refused t code key name why e) refl
 
-  module _ (h : batch_check t code key name ≡ Passed) where
+  module _ (h : batch_check t code key name ≡ passed) where
     -- the table is sound, and the columns are a list
     good : Sound t × GoodList code key name
     good = (batch_passes t code key name).0 h
@@ -124,10 +124,10 @@ module _ (t : Table) (code key name : List ℕ) where
         (list_longest (items_of code key name) t)
 
     -- all are done exactly if no refusal ended the list
-    pub batch_all_done : ((batch_outcome t code key name).answer.end ≡ Passed)
+    pub batch_all_done : ((batch_outcome t code key name).answer.end ≡ passed)
         ↔ ((batch_outcome t code key name).answer.done ≡ length code)
     batch_all_done =
-        batch_has (λ o. (o.answer.end ≡ Passed) ↔ (o.answer.done ≡ length code))
+        batch_has (λ o. (o.answer.end ≡ passed) ↔ (o.answer.done ≡ length code))
         (rw items_length at (list_all_done (items_of code key name) t))
 
     -- the table is the one that the items done leave
@@ -138,28 +138,28 @@ module _ (t : Table) (code key name : List ℕ) where
         (list_table (items_of code key name) t)
 
     -- the item that was refused answers on that table what ended the list, and leaves it as it is
-    pub batch_refused_item : (m p : ℕ) → (batch_outcome t code key name).answer.end ≡ Refused m p
+    pub batch_refused_item : (why : Refusal) → (batch_outcome t code key name).answer.end ≡ Err why
         → RefusedAt (items_of code key name) (batch_outcome t code key name).answer.done
-        (batch_outcome t code key name).table m p
+        (batch_outcome t code key name).table why
     batch_refused_item =
-        batch_has (λ o. (m p : ℕ) → o.answer.end ≡ Refused m p
-        → RefusedAt (items_of code key name) o.answer.done o.table m p)
+        batch_has (λ o. (why : Refusal) → o.answer.end ≡ Err why
+        → RefusedAt (items_of code key name) o.answer.done o.table why)
         (list_refused_item (items_of code key name) t)
 
     -- it is the one at the place `done` of the columns
-    pub batch_refused_place : (m p : ℕ) → (batch_outcome t code key name).answer.end ≡ Refused m p
+    pub batch_refused_place : (why : Refusal) → (batch_outcome t code key name).answer.end ≡ Err why
         → ((batch_outcome t code key name).answer.done < length code)
         × ((item_outcome (batch_outcome t code key name).table
-        (item_at code key name (batch_outcome t code key name).answer.done)).answer ≡ NotMade m p)
-    batch_refused_place m p e =
+        (item_at code key name (batch_outcome t code key name).answer.done)).answer ≡ Err why)
+    batch_refused_place why e =
         let o : BatchOutcome = batch_outcome t code key name in
-        let r = batch_refused_item m p e in
+        let r = batch_refused_item why e in
         let n : ℕ = o.answer.done in
         let w : o.answer.done ≤ length (items_of code key name) = batch_longest.within in
         let i = items_length in
         elim (ℕ_discrete o.answer.done (length code)) [
           | yes q ↦
-              let x : Refused m p ≡ Passed = sym e ∙ batch_all_done.1 q in
+              let x : Err why ≡ passed = sym e ∙ batch_all_done.1 q in
               let z : ◌≡◌ {A = ℕ} 0 1 = cc in
               absurd (omega arith)
           | no q ↦

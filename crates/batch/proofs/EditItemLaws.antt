@@ -10,18 +10,18 @@ use Rattle.tree.specs.Table.{Table}
 use Rattle.tree.specs.Sound.{row_of}
 use Rattle.tree.specs.Rules.{Sound}
 use Rattle.tree.specs.Edit.{deleted, renamed, delete_done, rename_done}
-use Rattle.tree.specs.Refusal.{delete_check, rename_check}
+use Rattle.tree.specs.Refusal.{delete_check, rename_check, Checked}
 use Rattle.tree.specs.Outcome.{row_there, standing, edit_if, delete_outcome, rename_outcome}
 use Rattle.tree.specs.Batch.{item_outcome}
-use Rattle.tree.specs.declared.Checked.{Checked}
 use Rattle.tree.specs.declared.Located.{Located}
-use Rattle.tree.specs.declared.Edited.TheVariants.{Refused as NotMade}
 use Rattle.tree.specs.declared.Item.{Item}
 use Rattle.tree.proofs.StandingLaws.{stands_row}
 use Rattle.table.specs.RowFound.{RowFound}
 use Rattle.edit_at.specs.AtRow.{delete_at, rename_at}
 use Rattle.edit_at.specs.EditLeaves.{EditLeaves}
 use Rattle.edit_at.proofs.OutcomeLaws.{leaves, own_refused, key_unknown, key_there}
+use Rattle.std.specs.Prelude.{Err}
+use Rattle.tree.specs.declared.Refusal.TheVariants.{UnknownKey}
 
 module _ (t : Table) (s : Sound t) (i : Item) where
   -- the row of its key, or the count
@@ -30,12 +30,12 @@ module _ (t : Table) (s : Sound t) (i : Item) where
 
   -- ── no row has it ──
   pub item_missing : t.count ≤ row
-      → EditLeaves (item_outcome t i) (NotMade 9 0) t.key t.size t.level t.kind t.name
+      → EditLeaves (item_outcome t i) (Err UnknownKey) t.key t.size t.level t.kind t.name
   unfolding item_outcome delete_outcome rename_outcome
   item_missing l = leaves t (go (eqb i.code 1))
     where
       go : (b : Bool) → cond b (delete_outcome t i.key) (rename_outcome t i.key i.name)
-          ≡ record { answer = NotMade 9 0; table = t }
+          ≡ record { answer = Err UnknownKey; table = t }
       go true = own_refused _ _ t (key_unknown t s i.key _ l)
       go false = own_refused _ _ t (key_unknown t s i.key _ l)
 

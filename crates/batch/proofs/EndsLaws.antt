@@ -11,12 +11,8 @@ use native.Mathlib.Omega.{arith}
 use lib.ListN.{length, take}
 use Rattle.tree.specs.Table.{Table, table_of}
 use Rattle.tree.specs.Rules.{Sound}
-use Rattle.tree.specs.Outcome.{EditOutcome}
+use Rattle.tree.specs.Outcome.{EditOutcome, Edited}
 use Rattle.tree.specs.Batch.{item_outcome, BatchOutcome, ended, unless_refused, one_by_one}
-use Rattle.tree.specs.declared.Checked.{Checked}
-use Rattle.tree.specs.declared.Checked.TheVariants.{Passed, Refused}
-use Rattle.tree.specs.declared.Edited.{Edited}
-use Rattle.tree.specs.declared.Edited.TheVariants.{Made, Refused as NotMade}
 use Rattle.tree.specs.declared.Item.{Item}
 use Rattle.tree.proofs.BatchRefusals.{sound_after}
 use Rattle.after_edit.specs.Act.{Accepted}
@@ -24,15 +20,18 @@ use Rattle.edit_at.specs.EditLeaves.{EditLeaves}
 use Rattle.batch.specs.Prefix.{AllAccepted, table_after_all, RefusedAt}
 use Rattle.batch.specs.Calls.{Calls, over, accepted, refused}
 use Rattle.batch.proofs.ItemLaws.{item_count, refused_unchanged, not_both}
+use Rattle.tree.specs.Refusal.{Checked, passed}
+use Rattle.std.specs.Prelude.{Ok, Err}
+use Rattle.tree.specs.declared.Refusal.{Refusal}
 
 -- ── how a list ends ──
 -- the items from a table on: how many are done, what ends them, and the table that is left
 pub data Ends : List Item → Table → ℕ → Checked → Table → Type 0 where
-  none : {t : Table} → Ends [] t 0 Passed t
+  none : {t : Table} → Ends [] t 0 passed t
   made : {i : Item} {is : List Item} {t last : Table} {k : ℕ} {end : Checked} → Accepted (item_outcome t i)
       → Ends is (item_outcome t i).table k end last → Ends (i ∷ is) t (suc k) end last
-  stopped : {i : Item} {is : List Item} {t : Table} {m p : ℕ} → (item_outcome t i).answer ≡ NotMade m p
-      → Ends (i ∷ is) t 0 (Refused m p) t
+  stopped : {i : Item} {is : List Item} {t : Table} {why : Refusal} → (item_outcome t i).answer ≡ Err why
+      → Ends (i ∷ is) t 0 (Err why) t
 
 -- an accepted item, and then the others
 pub after_made : (n : ℕ) (i : Item) (is : List Item) (t : Table) → Accepted (item_outcome t i)
@@ -41,32 +40,32 @@ unfolding one_by_one unless_refused
 after_made n i is t h = rw h.1
 
 -- a refused item, and then none
-pub after_refused : (n : ℕ) (i : Item) (is : List Item) (t : Table) (m p : ℕ) → (item_outcome t i).answer ≡ NotMade m p
-    → one_by_one n (i ∷ is) t ≡ ended n (Refused m p) t
+pub after_refused : (n : ℕ) (i : Item) (is : List Item) (t : Table) (why : Refusal) → (item_outcome t i).answer ≡ Err why
+    → one_by_one n (i ∷ is) t ≡ ended n (Err why) t
 unfolding one_by_one unless_refused
-after_refused n i is t m p e = rw (e, refused_unchanged t i m p e)
+after_refused n i is t why e = rw (e, refused_unchanged t i why e)
 
 -- the list ends so
 pub ends_are : {is : List Item} {t last : Table} {k : ℕ} {end : Checked} → Ends is t k end last
     → (n : ℕ) → one_by_one n is t ≡ ended (n + k) end last
 unfolding one_by_one
-ends_are {t = t} none n = ap (λ (x : ℕ). ended x Passed t) (let z : n ≡ n + 0 = omega arith in z)
+ends_are {t = t} none n = ap (λ (x : ℕ). ended x passed t) (let z : n ≡ n + 0 = omega arith in z)
 ends_are (made {i} {is} {t} {last} {k} {end} h e) n =
     after_made n i is t h ∙ ends_are e (suc n)
     ∙ ap (λ (x : ℕ). ended x end last) (let z : suc n + k ≡ n + suc k = omega arith in z)
-ends_are (stopped {i} {is} {t} {m} {p} e) n =
-    after_refused n i is t m p e ∙ ap (λ (x : ℕ). ended x (Refused m p) t) (let z : n ≡ n + 0 = omega arith in z)
+ends_are (stopped {i} {is} {t} {why} e) n =
+    after_refused n i is t why e ∙ ap (λ (x : ℕ). ended x (Err why) t) (let z : n ≡ n + 0 = omega arith in z)
 
 -- there is such an end
 pub ends_there : (is : List Item) (t : Table) → (k : ℕ) × (end : Checked) × (last : Table) × Ends is t k end last
-ends_there [] t = (0, Passed, t, none)
+ends_there [] t = (0, passed, t, none)
 ends_there (i ∷ is) t = go (item_outcome t i).answer refl (ends_there is (item_outcome t i).table)
   where
     go : (a : Edited) → (item_outcome t i).answer ≡ a
         → (k : ℕ) × (end : Checked) × (last : Table) × Ends is (item_outcome t i).table k end last
         → (k : ℕ) × (end : Checked) × (last : Table) × Ends (i ∷ is) t k end last
-    go (Made d) e h = let (k, end, last, x) = h in (suc k, end, last, made (d, e) x)
-    go (NotMade m p) e h = (0, Refused m p, t, stopped e)
+    go (Ok d) e h = let (k, end, last, x) = h in (suc k, end, last, made (d, e) x)
+    go (Err why) e h = (0, Err why, t, stopped e)
 
 -- and it is the one that the list has
 pub ends : (is : List Item) (t : Table)
@@ -86,12 +85,12 @@ leaves_table l e = rw (l.key_is, l.size_is, l.level_is, l.kind_is, l.name_is, e)
 pub calls_end : {is : List Item} {t last : Table} {n : ℕ} {end : Checked} → Calls is t n end last → Ends is t n end last
 calls_end over = none
 calls_end (accepted {i} {is} {t} {last} {d} {n = n} {end} l c) =
-    let e : (item_outcome t i).answer ≡ Made d = sym l.answers in
+    let e : (item_outcome t i).answer ≡ Ok d = sym l.answers in
     made (d, e) (subst (λ (u : Table). Ends is u n end last) (leaves_table l (item_count t i d e)) (calls_end c))
-calls_end (refused {i} {is} {t} {m} {p} l) =
-    let e : (item_outcome t i).answer ≡ NotMade m p = sym l.answers in
-    let u : (item_outcome t i).table ≡ t = refused_unchanged t i m p e in
-    subst (Ends (i ∷ is) t 0 (Refused m p))
+calls_end (refused {i} {is} {t} {why} l) =
+    let e : (item_outcome t i).answer ≡ Err why = sym l.answers in
+    let u : (item_outcome t i).table ≡ t = refused_unchanged t i why e in
+    subst (Ends (i ∷ is) t 0 (Err why))
     (sym (leaves_table l (ap (λ (x : Table). x.count) (sym u)) ∙ u)) (stopped e)
 
 -- what a call leaves is what its outcome has
@@ -110,13 +109,13 @@ leaves_itself o a e = record {
 pub end_calls : {is : List Item} {t last : Table} {n : ℕ} {end : Checked} → Ends is t n end last → Calls is t n end last
 end_calls none = over
 end_calls (made {i} {is} {t} {last} {k} {end} h e) =
-    let l = leaves_itself (item_outcome t i) (Made h.0) h.1 in
+    let l = leaves_itself (item_outcome t i) (Ok h.0) h.1 in
     accepted l (subst (λ (u : Table). Calls is u k end last) (sym (leaves_table l (item_count t i h.0 h.1)))
     (end_calls e))
-end_calls (stopped {i} {is} {t} {m} {p} e) =
-    let u : (item_outcome t i).table ≡ t = refused_unchanged t i m p e in
-    let l = leaves_itself (item_outcome t i) (NotMade m p) e in
-    subst (Calls (i ∷ is) t 0 (Refused m p)) (leaves_table l (ap (λ (x : Table). x.count) (sym u)) ∙ u) (refused l)
+end_calls (stopped {i} {is} {t} {why} e) =
+    let u : (item_outcome t i).table ≡ t = refused_unchanged t i why e in
+    let l = leaves_itself (item_outcome t i) (Err why) e in
+    subst (Calls (i ∷ is) t 0 (Err why)) (leaves_table l (ap (λ (x : Table). x.count) (sym u)) ∙ u) (refused l)
 
 -- ── the longest front ──
 -- no more are done than there are
@@ -140,7 +139,7 @@ ends_longest (stopped {i} {t = t} e) (suc m) l =
 
 -- all are done exactly if nothing was refused
 pub ends_all : {is : List Item} {t last : Table} {n : ℕ} {end : Checked} → Ends is t n end last
-    → (end ≡ Passed) ↔ (n ≡ length is)
+    → (end ≡ passed) ↔ (n ≡ length is)
 ends_all none = (λ _. refl, λ _. refl)
 ends_all (made h e) = let r = ends_all e in (λ x. ap suc (r.0 x), λ y. r.1 (omega arith))
 ends_all (stopped e) = (λ x. let z : ◌≡◌ {A = ℕ} 0 1 = cc in absurd (omega arith), λ y. absurd (omega arith))
@@ -156,10 +155,10 @@ ends_table (stopped e) = refl
 
 -- what ended the list is what the next item answers on that table
 pub ends_refused : {is : List Item} {t last : Table} {n : ℕ} {end : Checked} → Ends is t n end last
-    → (m p : ℕ) → end ≡ Refused m p → RefusedAt is n last m p
-ends_refused none m p q = let z : ◌≡◌ {A = ℕ} 0 1 = cc in absurd (omega arith)
-ends_refused (made h e) m p q =
-    let r = ends_refused e m p q in
+    → (why : Refusal) → end ≡ Err why → RefusedAt is n last why
+ends_refused none why q = let z : ◌≡◌ {A = ℕ} 0 1 = cc in absurd (omega arith)
+ends_refused (made h e) why q =
+    let r = ends_refused e why q in
     record {
       here = r.here;
       rest = r.rest;
@@ -167,14 +166,14 @@ ends_refused (made h e) m p q =
       answer = r.answer;
       unchanged = r.unchanged;
     }
-ends_refused (stopped {i} {is} {t} {m} {p} e) a b q =
-    let y : (item_outcome t i).answer ≡ NotMade a b = e ∙ (cc) in
+ends_refused (stopped {i} {is} {t} {why = other} e) why q =
+    let y : (item_outcome t i).answer ≡ Err why = e ∙ (cc) in
     record {
       here = i;
       rest = is;
       place = refl;
       answer = y;
-      unchanged = refused_unchanged t i a b y;
+      unchanged = refused_unchanged t i why y;
     }
 
 -- ── soundness ──

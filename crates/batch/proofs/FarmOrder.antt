@@ -12,10 +12,9 @@ use Rattle.tree.specs.Sound.{level_ok, run_of, size_of, size_ok, kind_ok, has_na
 use Rattle.tree.specs.Sound.{first_bad}
 use Rattle.tree.specs.Tree.{parent, above, ancestor, other_root}
 use Rattle.tree.specs.Edit.{delete_done, rename_done}
-use Rattle.tree.specs.Refusal.{given, given_at, next, table_check, key_check, delete_check, rename_check}
+use Rattle.tree.specs.Refusal.{given, given_at, next, table_check, key_check, delete_check, rename_check, passed}
 use Rattle.tree.specs.Outcome.{edit_if, edit_check, delete_outcome, rename_outcome}
 use Rattle.tree.specs.Batch.{items_of, item_outcome, list_check, batch_check, batch_outcome}
-use Rattle.tree.specs.declared.Checked.TheVariants.{Passed}
 use Rattle.tree.proofs.FarmCalls.{farm}
 use Rattle.after_edit.specs.Act.{deletion, renaming}
 use Rattle.after_edit.specs.Independent.{Independent}
@@ -87,7 +86,7 @@ farm_pairwise = (
     }
 
 -- the check passes, either way round
-passes : (batch_check farm codes keys names ≡ Passed) × (batch_check farm codes keys_turned names ≡ Passed)
+passes : (batch_check farm codes keys names ≡ passed) × (batch_check farm codes keys_turned names ≡ passed)
 unfolding least some_below nearest shortest count_ok level_ok run_of size_of size_ok kind_ok has_name name_ok row_of key_ok
     beside_key_ok row_ok first_bad given given_at next table_check list_check batch_check
 passes = (refl, refl)
@@ -98,7 +97,7 @@ unfolding items_of
 turned = twice exchanged (twice (later exchanged) exchanged)
 
 -- so the call ends alike on both, with all three done
-pub farm_turned : ((batch_outcome farm codes keys names).answer.end ≡ Passed)
+pub farm_turned : ((batch_outcome farm codes keys names).answer.end ≡ passed)
     × EndAlike (batch_outcome farm codes keys names) (batch_outcome farm codes keys_turned names)
 farm_turned =
     batch_any_order farm codes keys names codes keys_turned names passes.0 passes.1 turned farm_pairwise

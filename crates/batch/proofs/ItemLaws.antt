@@ -12,14 +12,14 @@ use Rattle.tree.specs.Table.{Table}
 use Rattle.tree.specs.Edit.{inserted, deleted, renamed, insert_done, delete_done, rename_done}
 use Rattle.tree.specs.Outcome.{EditOutcome, edit_if, edit_check, delete_outcome, rename_outcome}
 use Rattle.tree.specs.Batch.{items_of, item_outcome}
-use Rattle.tree.specs.declared.Checked.{Checked}
-use Rattle.tree.specs.declared.Checked.TheVariants.{Passed, Refused}
 use Rattle.tree.specs.declared.Done.{Done}
-use Rattle.tree.specs.declared.Edited.TheVariants.{Made, Refused as NotMade}
 use Rattle.tree.specs.declared.Item.{Item}
 use Rattle.after_edit.specs.Act.{Act, insertion, deletion, renaming, outcome, Accepted, key_of, table_after, done_of}
 use Rattle.after_edit.proofs.ActLaws.{own, outcome_is, accepted_has}
 use Rattle.batch.specs.Prefix.{act_of, item_at}
+use Rattle.tree.specs.Refusal.{Checked}
+use Rattle.std.specs.Prelude.{Ok, Err}
+use Rattle.tree.specs.declared.Refusal.{Refusal}
 
 -- its call is that of the edit that it asks for
 pub item_act : (t : Table) (i : Item) → item_outcome t i ≡ outcome (act_of i) t
@@ -39,25 +39,25 @@ done_count (deletion k) t = refl
 done_count (renaming k m) t = refl
 
 -- so an accepted item answers the count of the table that it leaves
-pub item_count : (t : Table) (i : Item) (d : Done) → (item_outcome t i).answer ≡ Made d
+pub item_count : (t : Table) (i : Item) (d : Done) → (item_outcome t i).answer ≡ Ok d
     → d.count ≡ (item_outcome t i).table.count
 item_count t i d = rw (item_act t i) (λ e.
     accepted_has (λ (d : Done) (u : Table). d.count ≡ u.count) (act_of i) t d e (λ f. done_count (act_of i) t))
 
 -- a refused item leaves the table as it is
-pub refused_unchanged : (t : Table) (i : Item) (m p : ℕ) → (item_outcome t i).answer ≡ NotMade m p
+pub refused_unchanged : (t : Table) (i : Item) (why : Refusal) → (item_outcome t i).answer ≡ Err why
     → (item_outcome t i).table ≡ t
 unfolding edit_if
-refused_unchanged t i m p =
+refused_unchanged t i why =
     let a : Act = act_of i in
     rw (item_act t i, outcome_is a t) (go (edit_check t (key_of a) (own a t)) (done_of a t) (table_after a t))
   where
-    go : (c : Checked) (d : Done) (u : Table) → (edit_if c d u t).answer ≡ NotMade m p → (edit_if c d u t).table ≡ t
-    go Passed d u e = let z : ◌≡◌ {A = ℕ} 0 1 = cc in absurd (omega arith)
-    go (Refused n q) d u e = refl
+    go : (c : Checked) (d : Done) (u : Table) → (edit_if c d u t).answer ≡ Err why → (edit_if c d u t).table ≡ t
+    go (Ok v) d u e = let z : ◌≡◌ {A = ℕ} 0 1 = cc in absurd (omega arith)
+    go (Err other) d u e = refl
 
 -- an item that is refused is not accepted
-pub not_both : (o : EditOutcome) {m p : ℕ} → o.answer ≡ NotMade m p → Accepted o → ⊥
+pub not_both : (o : EditOutcome) {why : Refusal} → o.answer ≡ Err why → Accepted o → ⊥
 not_both o e h = let d = h.1 in let z : ◌≡◌ {A = ℕ} 0 1 = cc in omega arith
 
 -- ── the columns ──

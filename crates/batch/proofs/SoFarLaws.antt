@@ -15,13 +15,9 @@ use Rattle.tree.specs.Table.{Table, table_of}
 use Rattle.tree.specs.Rules.{Sound}
 use Rattle.tree.specs.Sound.{row_of}
 use Rattle.tree.specs.Edit.{deleted, renamed, delete_done, rename_done}
-use Rattle.tree.specs.Outcome.{EditOutcome, edit_if, delete_outcome, rename_outcome}
+use Rattle.tree.specs.Outcome.{EditOutcome, edit_if, delete_outcome, rename_outcome, Edited}
 use Rattle.tree.specs.Batch.{items_of, item_outcome, BatchOutcome, ended, one_by_one}
-use Rattle.tree.specs.declared.Checked.{Checked}
-use Rattle.tree.specs.declared.Checked.TheVariants.{Passed, Refused}
 use Rattle.tree.specs.declared.Done.{Done}
-use Rattle.tree.specs.declared.Edited.{Edited}
-use Rattle.tree.specs.declared.Edited.TheVariants.{Made, Refused as NotMade}
 use Rattle.tree.specs.declared.Item.{Item}
 use Rattle.tree.specs.declared.Batched.{Batched}
 use Rattle.tree.proofs.BatchRefusals.{sound_after}
@@ -32,6 +28,8 @@ use Rattle.batch.specs.Resumed.{by_end, resumed, turns_left}
 use Rattle.items.specs.SoFar.{goes_on, after_item}
 use Rattle.batch.proofs.ItemLaws.{item_count, refused_unchanged, columns}
 use Rattle.batch.proofs.EndsLaws.{after_made, after_refused, leaves_table}
+use Rattle.tree.specs.Refusal.{Checked, passed}
+use Rattle.std.specs.Prelude.{Ok, Err}
 
 -- from the table t₀ on, of the n items `is`: the answer so far is s, and the table t
 pub record SoFar (is : List Item) (t₀ : Table) (n : ℕ) (s : Batched) (t : Table) : Type 0 where
@@ -44,7 +42,7 @@ pub record SoFar (is : List Item) (t₀ : Table) (n : ℕ) (s : Batched) (t : Ta
   pub keys : t.count ≡ t₀.count → t.key ≡ t₀.key
 
 pub so_far_start : (is : List Item) (t : Table) (n : ℕ) → Sound t
-    → SoFar is t n (record { done = 0; count = t.count; end = Passed }) t
+    → SoFar is t n (record { done = 0; count = t.count; end = passed }) t
 so_far_start is t n s = record { sound = s; rest = refl; within = omega arith; fewer = omega arith; keys = λ _. refl }
 
 -- ── an item ──
@@ -54,13 +52,13 @@ KeysStand t o = (o.table.count ≤ t.count) × (o.table.count ≡ t.count → o.
 
 delete_keys : (t : Table) → Sound t → (c : Checked) (d : Done) (r : ℕ) → KeysStand t (edit_if c d (deleted t r) t)
 unfolding edit_if deleted
-delete_keys t s Passed d r = (omega arith, λ z. absurd (omega (arith, s.in_use.some)))
-delete_keys t s (Refused m p) d r = (omega arith, λ _. refl)
+delete_keys t s (Ok u) d r = (omega arith, λ z. absurd (omega (arith, s.in_use.some)))
+delete_keys t s (Err why) d r = (omega arith, λ _. refl)
 
 rename_keys : (t : Table) (c : Checked) (d : Done) (r n : ℕ) → KeysStand t (edit_if c d (renamed t r n) t)
 unfolding edit_if renamed
-rename_keys t Passed d r n = (omega arith, λ _. refl)
-rename_keys t (Refused m p) d r n = (omega arith, λ _. refl)
+rename_keys t (Ok u) d r n = (omega arith, λ _. refl)
+rename_keys t (Err why) d r n = (omega arith, λ _. refl)
 
 -- so did an item
 item_keys : (t : Table) → Sound t → (i : Item) → KeysStand t (item_outcome t i)
@@ -75,16 +73,16 @@ item_keys t s i = go (eqb i.code 1)
 left_table : (t : Table) (s : Batched) (i : Item) (e : Edited) {key size level kind name : List ℕ}
     → s.count ≡ t.count → EditLeaves (item_outcome t i) e key size level kind name
     → table_of key size level kind name (after_item s e).count ≡ (item_outcome t i).table
-left_table t s i (Made d) h l = leaves_table l (item_count t i d (sym l.answers))
-left_table t s i (NotMade m p) h l =
-    leaves_table l (h ∙ ap (λ (u : Table). u.count) (sym (refused_unchanged t i m p (sym l.answers))))
+left_table t s i (Ok d) h l = leaves_table l (item_count t i d (sym l.answers))
+left_table t s i (Err why) h l =
+    leaves_table l (h ∙ ap (λ (u : Table). u.count) (sym (refused_unchanged t i why (sym l.answers))))
 
 -- ── one item later ──
 -- an item is to be tried only where none was refused and one is left
 goes_on_lem : (end : Checked) (done count n : ℕ) → goes_on (record { done = done; count = count; end = end }) n ≡ true
-    → (end ≡ Passed) × (done < n)
-goes_on_lem Passed done count n h = (refl, ltb-true _ _ h)
-goes_on_lem (Refused m p) done count n h = absurd (true≢false (sym h))
+    → (end ≡ passed) × (done < n)
+goes_on_lem (Ok u) done count n h = (refl, ltb-true _ _ h)
+goes_on_lem (Err why) done count n h = absurd (true≢false (sym h))
 
 pub item_left : (s : Batched) (n : ℕ) → goes_on s n ≡ true → s.done < n
 item_left s n h = (goes_on_lem s.end s.done s.count n h).1
@@ -92,15 +90,15 @@ item_left s n h = (goes_on_lem s.end s.done s.count n h).1
 -- each item leaves fewer turns
 pub turns_less : (s : Batched) (e : Edited) (n : ℕ) → goes_on s n ≡ true
     → turns_left (after_item s e).end (after_item s e).done n < turns_left s.end s.done n
-turns_less s (Made d) n h =
+turns_less s (Ok d) n h =
     let (p, l) = goes_on_lem s.end s.done s.count n h in rw p (omega arith)
-turns_less s (NotMade m q) n h =
+turns_less s (Err why) n h =
     let (p, l) = goes_on_lem s.end s.done s.count n h in rw p (omega arith)
 
 -- no more are done than there are
 done_within : (s : Batched) (e : Edited) (n : ℕ) → goes_on s n ≡ true → (after_item s e).done ≤ n
-done_within s (Made d) n h = let (p, l) = goes_on_lem s.end s.done s.count n h in omega arith
-done_within s (NotMade m q) n h = let (p, l) = goes_on_lem s.end s.done s.count n h in omega arith
+done_within s (Ok d) n h = let (p, l) = goes_on_lem s.end s.done s.count n h in omega arith
+done_within s (Err why) n h = let (p, l) = goes_on_lem s.end s.done s.count n h in omega arith
 
 -- what an outcome leaves, where the answer has the count of its table
 pub batch_leaves : {o : BatchOutcome} (s : Batched) (t : Table) → s.count ≡ t.count
@@ -129,14 +127,14 @@ module _ (code key name : List ℕ) (k : length code ≡ length key) (m : length
       {key' size level kind name' : List ℕ}
       → EditLeaves (item_outcome t (item_at code key name s.done)) e key' size level kind name'
       → resumed (after_item s e) items (table_of key' size level kind name' (after_item s e).count) ≡ resumed s items t
-  resumed_later s t c h (Made d) l =
+  resumed_later s t c h (Ok d) l =
       let (p, q) = goes_on_lem s.end s.done s.count (length code) h in
-      rw (p, add-one, left_table t s _ (Made d) c l) (sym (rest_later s.done t q
+      rw (p, add-one, left_table t s _ (Ok d) c l) (sym (rest_later s.done t q
       ∙ after_made s.done _ _ t (d, sym l.answers)))
-  resumed_later s t c h (NotMade n q) l =
+  resumed_later s t c h (Err why) l =
       let (p, r) = goes_on_lem s.end s.done s.count (length code) h in
-      rw (p, left_table t s _ (NotMade n q) c l, refused_unchanged t _ n q (sym l.answers), c)
-      (sym (rest_later s.done t r ∙ after_refused s.done _ _ t n q (sym l.answers)))
+      rw (p, left_table t s _ (Err why) c l, refused_unchanged t _ why (sym l.answers), c)
+      (sym (rest_later s.done t r ∙ after_refused s.done _ _ t why (sym l.answers)))
 
   pub so_far_later : (t₀ : Table) (s : Batched) (t : Table) → s.count ≡ t.count → SoFar items t₀ (length code) s t
       → goes_on s (length code) ≡ true → (e : Edited) {key' size level kind name' : List ℕ}
@@ -162,10 +160,10 @@ module _ (code key name : List ℕ) (k : length code ≡ length key) (m : length
       → goes_on (record { done = done; count = count; end = end }) (length code) ≡ false
       → by_end end done items t ≡ ended done end t
   unfolding one_by_one
-  nothing_left Passed done count t c l h =
+  nothing_left (Ok u) done count t c l h =
       ap (λ (is : List Item). one_by_one done is t)
       (drop_of_length-le items {i = done} (rw (columns code key name k m).0 (ltb-false _ _ h)))
-  nothing_left (Refused n p) done count t c l h = refl
+  nothing_left (Err why) done count t c l h = refl
 
   pub so_far_end : (t₀ : Table) (s : Batched) (t : Table) → s.count ≡ t.count → SoFar items t₀ (length code) s t
       → goes_on s (length code) ≡ false

@@ -1,11 +1,11 @@
 -- The front of a list of changes: RULES 02, E4. What the items of a list do that are all accepted, and what is so of
 -- the item after them. Theorems: proofs/BatchLaws.antt. Assumes nothing.
-use Rattle.std.specs.Prelude.{ℕ, ◌≤◌, ◌≡◌, ◌↔◌, cond, List, [], ◌∷◌, eqb, length, take, drop}
+use Rattle.std.specs.Prelude.{ℕ, ◌≤◌, ◌≡◌, ◌↔◌, cond, List, [], ◌∷◌, eqb, length, take, drop, Err}
 use Rattle.tree.specs.Table.{Table, at}
 use Rattle.tree.specs.Batch.{item, item_outcome}
-use Rattle.tree.specs.declared.Edited.TheVariants.{Refused as NotMade}
 use Rattle.tree.specs.declared.Item.{Item}
 use Rattle.after_edit.specs.Act.{Act, deletion, renaming, Accepted}
+use Rattle.tree.specs.declared.Refusal.{Refusal}
 
 -- the edit that an item asks for
 abbrev pub act_of : Item → Act
@@ -31,10 +31,10 @@ pub record LongestAccepted (is : List Item) (t : Table) (n : ℕ) : Type 0 where
   pub within : n ≤ length is
   pub longest : (m : ℕ) → m ≤ length is → AllAccepted (take m is) t ↔ (m ≤ n)
 
--- the item at place n of the list gets refusal m with place p on the table u, and leaves u as it is
-pub record RefusedAt (is : List Item) (n : ℕ) (u : Table) (m p : ℕ) : Type 0 where
+-- the item at place n of the list gets this refusal on the table u, and leaves u as it is
+pub record RefusedAt (is : List Item) (n : ℕ) (u : Table) (why : Refusal) : Type 0 where
   pub here : Item
   pub rest : List Item
   pub place : drop n is ≡ here ∷ rest
-  pub answer : (item_outcome u here).answer ≡ NotMade m p
+  pub answer : (item_outcome u here).answer ≡ Err why
   pub unchanged : (item_outcome u here).table ≡ u

@@ -3,38 +3,32 @@
 #![tactic(auto)]
 
 ghost use Rattle.std.specs.Prelude.{◌≡◌, ◌≤◌, length};
-ghost use Rattle.tree.specs.Table.{table_of};
+ghost use Rattle.tree.specs.Table.{most_rows, table_of};
 ghost use Rattle.tree.specs.Sound.{row_of};
 ghost use Rattle.tree.specs.Rules.{InUse, Sound};
 ghost use Rattle.tree.specs.RefusalRules.{GoodList};
 ghost use Rattle.tree.specs.Batch.{items_of, item_outcome, one_by_one, batch_outcome};
-ghost use Rattle.keys.specs.Chain.{ChainRoom, Chained};
+ghost use Rattle.keys.specs.Chain.{buckets_of, Empty, Chained};
 ghost use Rattle.edit_at.specs.EditLeaves.{EditLeaves};
 ghost use Rattle.batch.specs.BatchLeaves.{BatchLeaves};
 
 use edit_at::{deletion, renaming};
 use items::progress;
+use keys::Chains;
 use located::where_is;
-use tree::{Batched, Checked, Edited, Item};
+use tree::{Batched, Columns, Done, Item, Refusal};
 
 // The row of a key, or the count. The chains are those of the start, when `chained` rows were in use, so they serve
 // until the first row goes; a search from the front then costs less than the columns that close up.
-fn row_of(
-    key: &[usize],
-    count: usize,
-    wanted: usize,
-    chained: usize,
-    heads: &[u16],
-    next: &[u16],
-    shift: usize,
-) -> usize
+fn row_of(key: &[usize], count: usize, wanted: usize, chained: usize, chains: &Chains<'_>) -> usize
     requires count_in_bounds { count ≤ length key.now }
-    requires chain_room { ChainRoom heads.now next.now shift chained }
-    requires chained { count ≡ chained → Chained shift key.now heads.now next.now chained }
+    requires in_room { chained ≤ length chains.now.next.now }
+    requires chained { count ≡ chained
+        → Chained chains.now.shift key.now chains.now.heads.now chains.now.next.now chained }
     ensures { result ≡ row_of key.now count wanted }
 {
     if count == chained {
-        return keys::row_in(key, count, wanted, heads, next, shift);
+        return chains.row_in(key, count, wanted);
     }
     keys::row_of(key, count, wanted)
 }
@@ -49,7 +43,7 @@ fn edit_item(
     count: usize,
     item: Item,
     row: usize,
-) -> Edited
+) -> Result<Done, Refusal>
     requires sound { Sound (table_of key.old size.old level.old kind.old name.old count) }
     requires row_value { row ≡ row_of key.old count item.key }
     ensures { EditLeaves (item_outcome
@@ -58,13 +52,13 @@ fn edit_item(
         key.new size.new level.new kind.new name.new }
 {
     if count <= row {
-        return Edited::Refused(9, 0);
+        return Err(Refusal::UnknownKey);
     }
     let deletes = item.code == 1;
     if deletes {
         return deletion::delete_at(key, size, level, kind, name, count, where_is(level, row));
     }
-    renaming::rename_row(key, size, level, kind, name, count, row, item.name)
+    renaming::rename_at(key, size, level, kind, name, count, row, item.name)
 }
 
 // The items one by one, until one is refused.
@@ -78,13 +72,12 @@ fn do_items(
     item_code: &[usize],
     item_key: &[usize],
     item_name: &[usize],
-    heads: &[u16],
-    next: &[u16],
-    shift: usize,
+    chains: &Chains<'_>,
 ) -> Batched
     requires sound { Sound (table_of key.old size.old level.old kind.old name.old count) }
-    requires chain_room { ChainRoom heads.now next.now shift count }
-    requires chained { Chained shift key.old heads.now next.now count }
+    requires in_room { count ≤ length chains.now.next.now }
+    requires chained { Chained chains.now.shift key.old chains.now.heads.now
+        chains.now.next.now count }
     requires good_list { GoodList item_code.now item_key.now item_name.now }
     ensures { BatchLeaves (one_by_one 0 (items_of item_code.now item_key.now
         item_name.now)
@@ -95,8 +88,9 @@ fn do_items(
     let mut so_far = Batched {
         done: 0,
         count,
-        end: Checked::Passed,
+        end: Ok(()),
     };
+    // No index is counted: how far the list came is part of the answer.
     while progress::goes_on(so_far, item_code.len()) {
         let i = so_far.done;
         let item = Item {
@@ -104,7 +98,7 @@ fn do_items(
             key: item_key[i],
             name: item_name[i],
         };
-        let row = row_of(key, so_far.count, item.key, count, heads, next, shift);
+        let row = row_of(key, so_far.count, item.key, count, chains);
         let edited = edit_item(key, size, level, kind, name, so_far.count, item, row);
         so_far = progress::after_item(so_far, edited);
     }
@@ -123,29 +117,79 @@ fn check_and_do(
     item_code: &[usize],
     item_key: &[usize],
     item_name: &[usize],
-    heads: &mut [u16],
-    next: &mut [u16],
-    shift: usize,
+    chains: &mut Chains<'_>,
 ) -> Batched
     requires in_use { InUse (table_of key.old size.old level.old kind.old name.old count) }
-    requires chain_room { ChainRoom heads.old next.old shift count }
-    requires chained { Chained shift key.old heads.old next.old 0 }
+    requires in_room { count ≤ length chains.old.next.now }
+    requires empty { Empty chains.old.heads.now }
     ensures { BatchLeaves (batch_outcome
         (table_of key.old size.old level.old kind.old
         name.old count)
         item_code.now item_key.now item_name.now) result
         key.new size.new level.new kind.new name.new }
 {
-    let bad = rows::first_bad_in(key, size, level, kind, name, count, heads, next, shift);
+    let columns = Columns {
+        key,
+        size,
+        level,
+        kind,
+        name,
+        count,
+    };
+    let bad = rows::first_bad_in(&columns, chains);
     if bad < count {
-        return progress::nothing_done(count, 2, bad);
+        return progress::nothing_done(count, Refusal::UnsoundRow(bad));
     }
-    let checked = items::check_list(item_code, item_key, item_name);
-    if let Checked::Refused(number, place) = checked {
-        return progress::nothing_done(count, number, place);
+    if let Err(why) = items::check_list(item_code, item_key, item_name) {
+        return progress::nothing_done(count, why);
     }
     do_items(
-        key, size, level, kind, name, count, item_code, item_key, item_name, heads, next, shift,
+        key, size, level, kind, name, count, item_code, item_key, item_name, chains,
+    )
+}
+
+// The same with chains of its own, of so many buckets and rows.
+fn check_and_do_in<const HEADS: usize, const ROWS: usize>(
+    key: &mut [usize],
+    size: &mut [usize],
+    level: &mut [usize],
+    kind: &mut [usize],
+    name: &mut [usize],
+    count: usize,
+    item_code: &[usize],
+    item_key: &[usize],
+    item_name: &[usize],
+    shift: usize,
+) -> Batched
+    requires in_use { InUse (table_of key.old size.old level.old kind.old name.old count) }
+    requires low { shift ≤ 32 }
+    requires wide { buckets_of shift ≤ HEADS }
+    requires few { (HEADS ≤ 16384) × (ROWS ≤ most_rows) }
+    requires in_room { count ≤ ROWS }
+    ensures { BatchLeaves (batch_outcome
+        (table_of key.old size.old level.old kind.old
+        name.old count)
+        item_code.now item_key.now item_name.now) result
+        key.new size.new level.new kind.new name.new }
+{
+    let mut heads = [0u16; HEADS];
+    let mut next = [0u16; ROWS];
+    let mut chains = Chains {
+        heads: &mut heads,
+        next: &mut next,
+        shift,
+    };
+    check_and_do(
+        key,
+        size,
+        level,
+        kind,
+        name,
+        count,
+        item_code,
+        item_key,
+        item_name,
+        &mut chains,
     )
 }
 
@@ -169,21 +213,23 @@ pub fn batch(
         item_code.now item_key.now item_name.now) result
         key.new size.new level.new kind.new name.new }
 {
-    if !rows::count_ok(key, size, level, kind, name, count) {
-        return progress::nothing_done(count, 1, 0);
+    let columns = Columns {
+        key,
+        size,
+        level,
+        kind,
+        name,
+        count,
+    };
+    if !rows::count_ok(&columns) {
+        return progress::nothing_done(count, Refusal::BadCount);
     }
     if count <= 256 {
-        let mut heads = [0u16; 1024];
-        let mut next = [0u16; 256];
-        return check_and_do(
-            key, size, level, kind, name, count, item_code, item_key, item_name, &mut heads,
-            &mut next, 22,
+        return check_and_do_in::<1024, 256>(
+            key, size, level, kind, name, count, item_code, item_key, item_name, 22,
         );
     }
-    let mut heads = [0u16; 16384];
-    let mut next = [0u16; 4096];
-    check_and_do(
-        key, size, level, kind, name, count, item_code, item_key, item_name, &mut heads, &mut next,
-        18,
+    check_and_do_in::<16384, 4096>(
+        key, size, level, kind, name, count, item_code, item_key, item_name, 18,
     )
 }

@@ -13,6 +13,7 @@ use borrow.Author.Tests.{eqb-true}
 use lib.Dec.{eqb}
 use lib.ListN.{length}
 use Rattle.tree.specs.Search.{gather}
+use Rattle.std.specs.List.{sum_by}
 use Rattle.tree.specs.Table.{at}
 use Rattle.tree.specs.Tree.{parent, ancestor}
 use Rattle.tree.specs.Axis.{on_axis}
@@ -21,7 +22,8 @@ use Rattle.tree.proofs.TreeLaws.{less?, parent_below}
 use Rattle.tree.proofs.SoundLaws.{either, shape_descendants}
 use Rattle.tree.proofs.LevelLaws.{ancestors_count}
 use Rattle.scan.specs.OneRole.{Parents}
-use Rattle.bounds.specs.Bounds.{sum_of, on_count, span_of, link_span, parent_span, FewRows}
+use Rattle.scan.specs.declared.trees.Trees.{Trees}
+use Rattle.bounds.specs.Bounds.{on_count, span_of, link_span, parent_span, FewRows}
 use Rattle.tree.proofs.SubtreeLaws.{child_within}
 use Rattle.marks.proofs.SiblingLaws.{later_on, earlier_on}
 use Rattle.bounds.proofs.GatherLaws.{gather_within, gather_either}
@@ -130,20 +132,21 @@ module _ {size level : List ℕ} {n : ℕ} (s : Shape size level n) (c : ℕ) (m
         (less? axis 11)
 
 -- ── many contexts ──
-module _ {size level : List ℕ} {n : ℕ} {cs : List ℕ} (f : FewRows size level n cs) (axis : ℕ) where
-  pub one_most : (axis ≡ 1) ⊎ (axis ≡ 5) → sum_of (on_count axis level n) cs ≤ length cs
+module _ {trees : Trees} {cs : List ℕ} (f : FewRows trees cs) (axis : ℕ) where
+  pub one_most : (axis ≡ 1) ⊎ (axis ≡ 5) → sum_by (on_count axis trees.level.now trees.count) cs ≤ length cs
   one_most e =
-      le_trans (sum_less _ (λ c. 1) cs (λ i l. count_one level n (at cs i) axis e))
+      le_trans (sum_less _ (λ c. 1) cs (λ i l. count_one trees.level.now trees.count (at cs i) axis e))
       (omega (arith, sum_same 1 cs))
 
-  pub below_most : 2 ≤ axis → axis < 5 → sum_of (on_count axis level n) cs ≤ sum_of (span_of size) cs
-  below_most a b = sum_less _ _ cs (λ i l. count_below f.shape (at cs i) (f.inside i l) axis a b)
+  pub below_most : 2 ≤ axis → axis < 5
+      → sum_by (on_count axis trees.level.now trees.count) cs ≤ sum_by (span_of trees.size.now) cs
+  below_most a b = sum_less _ _ cs (λ i l. count_below trees.shape (at cs i) (f.inside i l) axis a b)
 
-  pub above_most : 6 ≤ axis → axis < 8 → sum_of (on_count axis level n) cs ≤ 64 * length cs
+  pub above_most : 6 ≤ axis → axis < 8 → sum_by (on_count axis trees.level.now trees.count) cs ≤ 64 * length cs
   above_most a b =
-      le_trans (sum_less _ (λ c. 64) cs (λ i l. count_above f.shape (at cs i) (f.inside i l) axis a b))
+      le_trans (sum_less _ (λ c. 64) cs (λ i l. count_above trees.shape (at cs i) (f.inside i l) axis a b))
       (omega (arith, sum_same 64 cs))
 
-  pub beside_most : {up : List ℕ} → Parents level n up → 10 ≤ axis → axis < 12
-      → sum_of (on_count axis level n) cs ≤ sum_of (parent_span size up) cs
-  beside_most p a b = sum_less _ _ cs (λ i l. count_beside f.shape (at cs i) (f.inside i l) p axis a b)
+  pub beside_most : {up : List ℕ} → Parents trees.level.now trees.count up → 10 ≤ axis → axis < 12
+      → sum_by (on_count axis trees.level.now trees.count) cs ≤ sum_by (parent_span trees.size.now up) cs
+  beside_most p a b = sum_less _ _ cs (λ i l. count_beside trees.shape (at cs i) (f.inside i l) p axis a b)

@@ -1,12 +1,13 @@
 -- A role reaches each row at most once: `roles_most`. There are at most as many roles as pairs: `roles_few`. The loop
--- that counts them by the places where the role changes: `roles_none`, `roles_start`, `roles_more`, `roles_small`,
+-- that counts them by the places where the role changes: `roles_none`, `roles_start`, `roles_more`, `roles_fit`,
 -- `roles_done`. Assumes nothing.
 use mathlib.Core.Path.{◌≡◌, refl, sym, ap, ◌∙◌}
 use mathlib.Core.Bool.{Bool, true, false, cond}
 use mathlib.Core.List.{List, [], ◌∷◌}
-use Prim.Native.Nat.{ℕ, suc, ◌+◌, ◌-◌, ◌*◌, ◌<◌, ◌≤◌}
+use Prim.Native.Nat.{ℕ, suc, ◌+◌, ◌-◌, ◌*◌, ◌^◌, ◌<◌, ◌≤◌}
 use native.Mathlib.Nat.{le_refl, le_trans, suc-mul}
 use native.Mathlib.Omega.{arith}
+use Rattle.std.proofs.Common.{Fits, w64}
 use lib.Dec.{eqb}
 use lib.ListN.{length, drop, length-append, drop_of_length-le}
 use lib.Seq.{drop-cons}
@@ -105,8 +106,9 @@ module _ {role : List ℕ} where
           record { some = omega arith; within = omega arith; sum = omega (arith, s.sum, next) }
 
       -- the count fits
-      pub roles_small : found + cond (eqb (at role (i - 1)) (at role i)) 0 1 ≤ length role + 1
-      roles_small = omega (arith, s.sum, next, roles_few role)
+      pub roles_fit : {r : ℕ} → r ≡ cond (eqb (at role (i - 1)) (at role i)) 0 1 → length role < 2 ^ 63
+          → Fits w64 (found + r)
+      roles_fit e h = omega (arith, s.sum, next, roles_few role)
 
     pub roles_done : length role ≤ i → found ≡ roles_in role
     unfolding roles_in

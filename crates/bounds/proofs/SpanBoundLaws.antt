@@ -6,13 +6,15 @@ use mathlib.Core.List.{List}
 use Prim.Native.Nat.{ℕ, zero, suc, ◌+◌, ◌-◌, ◌*◌, ◌<◌, ◌≤◌}
 use native.Mathlib.Omega.{arith}
 use lib.ListN.{length}
+use Rattle.std.specs.List.{sum_by}
 use Rattle.tree.specs.Table.{at}
 use Rattle.tree.specs.Tree.{parent}
 use Rattle.tree.specs.Rules.{Shape}
 use Rattle.tree.proofs.TreeLaws.{parent_below}
 use Rattle.tree.proofs.SoundLaws.{shape_fits}
 use Rattle.scan.specs.OneRole.{Parents}
-use Rattle.bounds.specs.Bounds.{sum_of, span_of, link_span, parent_span, FewRows}
+use Rattle.scan.specs.declared.trees.Trees.{Trees}
+use Rattle.bounds.specs.Bounds.{span_of, link_span, parent_span, FewRows}
 use Rattle.ways.proofs.ClimbLaws.{parent_low}
 use Rattle.bounds.proofs.SumLaws.{sum_less, sum_same}
 
@@ -45,12 +47,13 @@ module _ {size level : List ℕ} {n : ℕ} (s : Shape size level n) (c : ℕ) (m
         go (suc q) e = omega (arith, shape_fits s q (omega (arith, parent_below level c q e)), s.few)
 
 -- ── the sums ──
-module _ {size level : List ℕ} {n : ℕ} {cs : List ℕ} (f : FewRows size level n cs) where
-  small : (g : ℕ → ℕ) → ((i : ℕ) → i < length cs → g (at cs i) ≤ 4096) → sum_of g cs ≤ 4096 * 4096
+module _ {trees : Trees} {cs : List ℕ} (f : FewRows trees cs) where
+  small : (g : ℕ → ℕ) → ((i : ℕ) → i < length cs → g (at cs i) ≤ 4096) → sum_by g cs ≤ 4096 * 4096
   small g h = omega (arith, sum_less g (λ c. 4096) cs h, sum_same 4096 cs, f.few)
 
-  pub spans_small : sum_of (span_of size) cs ≤ 4096 * 4096
-  spans_small = small _ (λ i l. span_small f.shape (at cs i) (f.inside i l))
+  pub spans_small : sum_by (span_of trees.size.now) cs ≤ 4096 * 4096
+  spans_small = small _ (λ i l. span_small trees.shape (at cs i) (f.inside i l))
 
-  pub parent_spans_small : {up : List ℕ} → Parents level n up → sum_of (parent_span size up) cs ≤ 4096 * 4096
-  parent_spans_small p = small _ (λ i l. parent_span_small f.shape (at cs i) (f.inside i l) p)
+  pub parent_spans_small : {up : List ℕ} → Parents trees.level.now trees.count up
+      → sum_by (parent_span trees.size.now up) cs ≤ 4096 * 4096
+  parent_spans_small p = small _ (λ i l. parent_span_small trees.shape (at cs i) (f.inside i l) p)

@@ -6,18 +6,13 @@ use Rattle.tree.specs.Pairs.{most_pairs}
 use Rattle.tree.specs.Search.{gather}
 use Rattle.tree.specs.Table.{at}
 use Rattle.tree.specs.Axis.{on_axis}
-use Rattle.tree.specs.Rules.{Shape}
+use Rattle.scan.specs.declared.trees.Trees.{Trees}
 
 -- how many roles there are in a column where equal ones stand side by side
 unfoldable pub roles_in : List ℕ → ℕ
 roles_in [] = 0
 roles_in (r ∷ []) = 1
 roles_in (r ∷ s ∷ rs) = cond (eqb r s) 0 1 + roles_in (s ∷ rs)
-
--- the sum of f over a list
-unfoldable pub sum_of : (ℕ → ℕ) → List ℕ → ℕ
-sum_of f [] = 0
-sum_of f (c ∷ cs) = f c + sum_of f cs
 
 -- how many of n rows lie on the axis of the context c
 unfoldable pub on_count : ℕ → List ℕ → ℕ → ℕ → ℕ
@@ -36,8 +31,7 @@ link_span size (suc p) = span_of size p
 abbrev pub parent_span : List ℕ → List ℕ → ℕ → ℕ
 parent_span size up c = link_span size (at up c)
 
--- rows of a tree, of which there are few
-pub record FewRows (size level : List ℕ) (n : ℕ) (cs : List ℕ) : Type 0 where
-  pub shape : Shape size level n
-  pub inside : (i : ℕ) → i < length cs → at cs i < n
+-- rows in use, of which there are few
+pub record FewRows (trees : Trees) (cs : List ℕ) : Type 0 where
+  pub inside : (i : ℕ) → i < length cs → at cs i < trees.count
   pub few : length cs ≤ most_pairs

@@ -2,51 +2,39 @@
 // written. A role reaches each row once, and a pair reaches what lies on the axis of its row.
 #![tactic(auto)]
 
-ghost use Rattle.std.specs.Prelude.{◌≡◌, true, cond, ◌<◌, ◌≤◌, eqb, length};
-ghost use Rattle.tree.specs.Table.{table_of};
-ghost use Rattle.tree.specs.Pairs.{pairs_of};
-ghost use Rattle.tree.specs.Step.{step_list};
+ghost use Rattle.std.specs.Prelude.{◌≡◌, true, ◌≤◌, length};
+ghost use Rattle.std.specs.List.{sum_by};
 ghost use Rattle.scan.specs.OneRole.{Parents};
 ghost use Rattle.links.specs.Links.{climbs_axis};
-ghost use Rattle.runs.specs.StepReady.{StepReady};
-ghost use Rattle.bounds.specs.Bounds.{roles_in, sum_of, on_count, span_of, link_span, parent_span, FewRows};
+ghost use Rattle.runs.specs.Lines.{step_lines};
+ghost use Rattle.bounds.specs.Bounds.{roles_in, on_count, span_of, link_span, parent_span, FewRows};
 
-use tree::Ask;
-
-// 1 where the numbers differ, 0 where they are the same.
-fn differs(a: usize, b: usize) -> usize
-    ensures { result ≡ cond (eqb a b) 0 1 }
-{
-    (a != b) as usize
-}
+use runs::call::Call;
+use scan::trees::Trees;
 
 // How many roles there are: one more than the places where the role changes, and none where there are no pairs.
 fn roles(role: &[usize]) -> usize
     ensures { result ≡ roles_in role.now }
 {
-    if role.len() == 0 {
+    if role.is_empty() {
         return 0;
     }
     let mut found = 1;
-    let mut i = 1;
-    while i < role.len() {
-        found = found + differs(role[i - 1], role[i]);
-        i += 1;
+    for i in 1..role.len() {
+        found += (role[i - 1] != role[i]) as usize;
     }
     found
 }
 
 // The rows of the pairs and their descendants, added up.
-fn spans(size: &[usize], level: &[usize], count: usize, row: &[usize]) -> usize
-    requires { FewRows size.now level.now count row.now }
-    ensures { result ≡ sum_of (span_of size.now) row.now }
+fn spans(trees: &Trees<'_>, row: &[usize]) -> usize
+    requires { FewRows trees.now row.now }
+    ensures { result ≡ sum_by (span_of trees.now.size.now) row.now }
 {
+    let size = trees.size;
     let mut sum = 0;
-    let mut i = 0;
-    while i < row.len() {
-        let c = row[i];
-        sum = sum + (size[c] + 1);
-        i += 1;
+    for &c in row {
+        sum += size[c] + 1;
     }
     sum
 }
@@ -61,73 +49,39 @@ fn link_span(size: &[usize], link: usize) -> usize
 }
 
 // The parents of the rows of the pairs and the parents' descendants, added up.
-fn parent_spans(
-    size: &[usize],
-    level: &[usize],
-    count: usize,
-    up: &[usize; 4096],
-    row: &[usize],
-) -> usize
-    requires few_rows { FewRows size.now level.now count row.now }
-    requires parents { Parents level.now count up.now }
-    ensures { result ≡ sum_of (parent_span size.now up.now) row.now }
+fn parent_spans(trees: &Trees<'_>, up: &[usize; 4096], row: &[usize]) -> usize
+    requires few_rows { FewRows trees.now row.now }
+    requires parents { Parents trees.now.level.now trees.now.count up.now }
+    ensures { result ≡ sum_by (parent_span trees.now.size.now up.now) row.now }
 {
+    let size = trees.size;
     let mut sum = 0;
-    let mut i = 0;
-    while i < row.len() {
-        let c = row[i];
-        sum = sum + link_span(size, up[c]);
-        i += 1;
+    for &c in row {
+        sum += link_span(size, up[c]);
     }
     sum
 }
 
 // Whether what the pairs reach, each by itself, surely is at most `room`; false on an axis with no cheap bound.
-fn axis_fits(
-    size: &[usize],
-    level: &[usize],
-    count: usize,
-    up: &[usize; 4096],
-    row: &[usize],
-    axis: usize,
-    room: usize,
-) -> bool
-    requires few_rows { FewRows size.now level.now count row.now }
-    requires parents { climbs_axis axis ≡ true → Parents level.now count up.now }
-    ensures { result ≡ true → sum_of (on_count axis level.now count) row.now ≤ room }
+fn axis_fits(trees: &Trees<'_>, up: &[usize; 4096], row: &[usize], axis: usize, room: usize) -> bool
+    requires few_rows { FewRows trees.now row.now }
+    requires parents { climbs_axis axis ≡ true → Parents trees.now.level.now trees.now.count up.now }
+    ensures { result ≡ true
+        → sum_by (on_count axis trees.now.level.now trees.now.count) row.now ≤ room }
 {
     match axis {
         1 | 5 => row.len() <= room,
-        2..=4 => spans(size, level, count, row) <= room,
+        2..=4 => spans(trees, row) <= room,
         6 | 7 => 64 * row.len() <= room,
-        10 | 11 => parent_spans(size, level, count, up, row) <= room,
+        10 | 11 => parent_spans(trees, up, row) <= room,
         _ => false,
     }
 }
 
 // Whether the lines of the step surely are at most `room`; where it says false, they may be so all the same.
-pub fn surely_fits(
-    key: &[usize],
-    size: &[usize],
-    level: &[usize],
-    kind: &[usize],
-    name: &[usize],
-    count: usize,
-    up: &[usize; 4096],
-    role: &[usize],
-    row: &[usize],
-    ask: Ask,
-    room: usize,
-) -> bool
-    requires { StepReady (table_of key.now size.now level.now kind.now name.now count)
-        ask up.now role.now row.now }
-    ensures { result ≡ true → length (step_list
-        (table_of key.now size.now level.now
-        kind.now name.now count)
-        ask (pairs_of role.now row.now)) ≤ room }
+pub fn surely_fits(call: &Call<'_>, room: usize) -> bool
+    ensures { result ≡ true → length (step_lines call.now) ≤ room }
 {
-    if axis_fits(size, level, count, up, row, ask.axis, room) {
-        return true;
-    }
-    roles(role) * count <= room
+    axis_fits(&call.trees, call.up, call.row, call.ask.axis, room)
+        || roles(call.role) * call.trees.count <= room
 }

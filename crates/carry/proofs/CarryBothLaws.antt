@@ -16,7 +16,6 @@ use Rattle.tree.specs.EditRules.{NoKey}
 use Rattle.tree.specs.Pairs.{Pair}
 use Rattle.tree.specs.Carry.{carried}
 use Rattle.tree.specs.declared.Done.{Done}
-use Rattle.tree.specs.declared.Edited.TheVariants.{Made}
 use Rattle.tree.proofs.AcceptLaws.{no_key, insert_passes}
 use Rattle.tree.proofs.EditLaws.{row_key}
 use Rattle.tree.proofs.RowsInUse.{cut_find}
@@ -32,6 +31,7 @@ use Rattle.after_edit.proofs.InTurnLaws.{key_not_brought, flipped}
 use Rattle.after_edit.proofs.EitherOrder.{either_order}
 use Rattle.carry.specs.Refound.{refound_at, refound, NotBack}
 use Rattle.carry.proofs.GrantLaws.{Inside, carry_refinds, refound_in}
+use Rattle.std.specs.Prelude.{Ok}
 
 -- ── found again twice ──
 -- where no key comes back, a list found again in u, and from there in v, is found again in v
@@ -66,8 +66,8 @@ refound_inside : (t u : Table) → Sound u → (ps : List Pair) → Inside u (re
 refound_inside t u s ps q i = ((refound_in t u s ps q).0 i).2
 
 -- ── two edits in turn ──
-module _ (a b : Act) (t : Table) (d e : Done) (p : (outcome a t).answer ≡ Made d)
-    (q : (in_turn a b t).answer ≡ Made e) where
+module _ (a b : Act) (t : Table) (d e : Done) (p : (outcome a t).answer ≡ Ok d)
+    (q : (in_turn a b t).answer ≡ Ok e) where
   -- carried over the one, then over the other
   pub carry_both : NotBack t (outcome a t).table (in_turn a b t).table → (ps : List Pair) → Inside t ps
       → carried e.first e.moved (carried d.first d.moved ps) ≡ refound t (in_turn a b t).table ps
@@ -87,7 +87,7 @@ still_none b u f x n h j l =
 
 -- no key comes back where the second edit brings none of those that the first deleted, as no deletion and no renaming
 -- does
-pub not_brought : (a b : Act) (t : Table) (e : Done) → (in_turn a b t).answer ≡ Made e
+pub not_brought : (a b : Act) (t : Table) (e : Done) → (in_turn a b t).answer ≡ Ok e
     → ((w : ℕ) → w < t.count → NoKey (outcome a t).table (at t.key w)
     → (i : ℕ) → i < brings b → at (new_keys b) i ≡ at t.key w → ⊥)
     → NotBack t (outcome a t).table (in_turn a b t).table
@@ -105,7 +105,7 @@ brings_none (deletion k) t f w l i m e = omega arith
 brings_none (renaming k n) t f w l i m e = omega arith
 
 -- so of two independent edits the second brings nothing back
-not_back : (a b : Act) (t : Table) → Independent a b t → (e : Done) → (in_turn a b t).answer ≡ Made e
+not_back : (a b : Act) (t : Table) → Independent a b t → (e : Done) → (in_turn a b t).answer ≡ Ok e
     → NotBack t (outcome a t).table (in_turn a b t).table
 not_back a b t i e q =
     not_brought a b t e q (λ w l n. brings_none b t (accepted_fits b t i.accepted_b) w l)
@@ -126,8 +126,8 @@ refound_same t u v s ps =
 
 -- demand 3 for grants: over two independent edits, in either order, a list is carried to the same list
 pub carry_either_order : (a b : Act) (t : Table) → Independent a b t → (ps : List Pair) → Inside t ps
-    → (d e d' e' : Done) → (outcome a t).answer ≡ Made d → (in_turn a b t).answer ≡ Made e
-    → (outcome b t).answer ≡ Made d' → (in_turn b a t).answer ≡ Made e'
+    → (d e d' e' : Done) → (outcome a t).answer ≡ Ok d → (in_turn a b t).answer ≡ Ok e
+    → (outcome b t).answer ≡ Ok d' → (in_turn b a t).answer ≡ Ok e'
     → carried e.first e.moved (carried d.first d.moved ps)
     ≡ carried e'.first e'.moved (carried d'.first d'.moved ps)
 carry_either_order a b t i ps j d e d' e' p q p' q' =

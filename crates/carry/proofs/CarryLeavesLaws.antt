@@ -13,12 +13,8 @@ use lib.IntN.{ℤ, pos, ◌+ℤ◌}
 use lib.ListN.{length}
 use Rattle.tree.specs.Pairs.{Pair, pairs_of}
 use Rattle.tree.specs.StepRules.{PairsFit}
-use Rattle.tree.specs.Refusal.{given, next, pair_check, room_check}
+use Rattle.tree.specs.Refusal.{given, next, pair_check, room_check, Checked, passed}
 use Rattle.tree.specs.Carry.{carried, old_count_ok, move_ok, CarryOutcome, carry_if, carry_check, carry_outcome}
-use Rattle.tree.specs.declared.Checked.{Checked}
-use Rattle.tree.specs.declared.Checked.TheVariants.{Passed, Refused}
-use Rattle.tree.specs.declared.Carried.{Carried}
-use Rattle.tree.specs.declared.Carried.TheVariants.{Written, Refused as NotCarried}
 use Rattle.tree.proofs.SoundLaws.{both, next_passed, given_passed}
 use Rattle.tree.proofs.AcceptLaws.{next_next}
 use Rattle.tree.proofs.RoleLaws.{pair_passes}
@@ -27,24 +23,28 @@ use Rattle.moves.specs.Moves.{MovesRow}
 use Rattle.pairs_left.specs.Left.{move_of, left_of, Ready, Carries}
 use Rattle.tree.proofs.RowMoveLaws.{move_ok_lem}
 use Rattle.pairs_left.proofs.StayLaws.{left_is}
+use Rattle.tree.specs.Carry.{Carried}
+use Rattle.std.specs.Prelude.{Err, Ok}
+use Rattle.tree.specs.declared.Refusal.TheVariants.{TooManyResults, BadCount, BadMove}
+use Rattle.tree.specs.declared.Refusal.{Refusal}
 
 -- refusals 1, 3 to 5 and 17
 abbrev pub call_checks : List ℕ → List ℕ → ℕ → ℕ → ℤ → Checked
 call_checks role row old first moved =
-    next (given (not (old_count_ok old)) 1 0)
-    (next (pair_check role row old) (given (not (move_ok old first moved)) 17 0))
+    next (given (not (old_count_ok old)) BadCount)
+    (next (pair_check role row old) (given (not (move_ok old first moved)) BadMove))
 
-module _ (role row : List ℕ) (old first : ℕ) (moved : ℤ) (e : call_checks role row old first moved ≡ Passed) where
+module _ (role row : List ℕ) (old first : ℕ) (moved : ℤ) (e : call_checks role row old first moved ≡ passed) where
   -- what the checks that passed say
   few : old ≤ 4096
   unfolding old_count_ok
-  few = leb-true _ _ (both (leb 1 old) _ (not-false _ (given_passed _ _ _ ((next_passed _ _).0 e).0))).1
+  few = leb-true _ _ (both (leb 1 old) _ (not-false _ (given_passed _ _ ((next_passed _ _).0 e).0))).1
 
   pairs : PairsFit role row old
   pairs = (pair_passes role row old).0 ((next_passed _ _).0 ((next_passed _ _).0 e).1).0
 
   move : move_ok old first moved ≡ true
-  move = not-false _ (given_passed _ _ _ ((next_passed _ _).0 ((next_passed _ _).0 e).1).1)
+  move = not-false _ (given_passed _ _ ((next_passed _ _).0 ((next_passed _ _).0 e).1).1)
 
   -- the first moved row can be moved
   pub call_moves : MovesRow old first moved first
@@ -63,15 +63,15 @@ module _ (role row : List ℕ) (old first : ℕ) (moved : ℤ) (outRole outRow :
   room_last = next_next _ _ _ (room_check (length new) outRole outRow)
 
   -- refused by a check
-  pub leaves_refused : (n p : ℕ) → call_checks role row old first moved ≡ Refused n p
-      → CarryLeaves (carry_outcome role row old first moved outRole outRow) (NotCarried n p) outRole outRow
+  pub leaves_refused : (why : Refusal) → call_checks role row old first moved ≡ Err why
+      → CarryLeaves (carry_outcome role row old first moved outRole outRow) (Err why) outRole outRow
   unfolding carry_outcome carry_if next
-  leaves_refused n p e =
-      let c : carry_check role row old first moved outRole outRow ≡ Refused n p =
+  leaves_refused why e =
+      let c : carry_check role row old first moved outRole outRow ≡ Err why =
       room_last ∙ ap (λ (x : Checked). next x (room_check (length new) outRole outRow)) e in
       rw c (record { answers = refl; role_is = refl; row_is = refl })
 
-  module _ (e : call_checks role row old first moved ≡ Passed) where
+  module _ (e : call_checks role row old first moved ≡ passed) where
     -- only the room is left to check
     room_only : carry_check role row old first moved outRole outRow ≡ room_check (length new) outRole outRow
     unfolding next
@@ -85,7 +85,7 @@ module _ (role row : List ℕ) (old first : ℕ) (moved : ℤ) (outRole outRow :
 
       -- without room
       pub leaves_full : min (length outRole) (length outRow) < left
-          → CarryLeaves (carry_outcome role row old first moved outRole outRow) (NotCarried 8 left) outRole outRow
+          → CarryLeaves (carry_outcome role row old first moved outRole outRow) (Err (TooManyResults left)) outRole outRow
       unfolding carry_outcome carry_if room_check given
       leaves_full h =
           rw (left_new, room_only, lt-ltb (min (length outRole) (length outRow)) (length new) (omega (arith, left_new)))
@@ -107,7 +107,7 @@ module _ (role row : List ℕ) (old first : ℕ) (moved : ℤ) (outRole outRow :
       -- and written
       pub leaves_written : {newRole new_row : List ℕ} → left ≤ min (length outRole) (length outRow)
           → Carries role row (move_of old first moved to) outRole outRow newRole new_row
-          → CarryLeaves (carry_outcome role row old first moved outRole outRow) (Written left) newRole new_row
+          → CarryLeaves (carry_outcome role row old first moved outRole outRow) (Ok left) newRole new_row
       unfolding carry_outcome carry_if room_check given
       leaves_written h w =
           rw (left_new, room_only, le-ltb (min (length outRole) (length outRow)) (length new) (omega (arith, left_new)))

@@ -12,16 +12,12 @@ use lib.Seq.{take-append_seam}
 use Rattle.tree.specs.Table.{Table}
 use Rattle.tree.specs.Pairs.{Pair, pairs_of, roles_of, rows_of}
 use Rattle.tree.specs.StepRules.{PairsFit}
-use Rattle.tree.specs.Refusal.{given_at, next, pair_check, ask_check, room_check}
+use Rattle.tree.specs.Refusal.{given_at, next, pair_check, ask_check, room_check, Checked, passed}
 use Rattle.tree.specs.declared.Ask.{Ask}
 use Rattle.tree.specs.Step.{step_list}
 use Rattle.tree.specs.Outcome.{overwritten, step_check}
 use Rattle.tree.specs.Carry.{carried, carry_if, carry_check, carry_outcome}
-use Rattle.tree.specs.declared.Checked.{Checked}
-use Rattle.tree.specs.declared.Checked.TheVariants.{Passed, Refused}
 use Rattle.tree.specs.declared.Done.{Done}
-use Rattle.tree.specs.declared.Edited.TheVariants.{Made}
-use Rattle.tree.specs.declared.Carried.TheVariants.{Written, Refused as NotCarried}
 use Rattle.tree.proofs.SoundLaws.{next_first, table_passes}
 use Rattle.tree.proofs.FindLaws.{given_refused}
 use Rattle.tree.proofs.RoleLaws.{pair_passes}
@@ -32,53 +28,56 @@ use Rattle.after_edit.specs.Act.{Act, outcome}
 use Rattle.after_edit.proofs.ActLaws.{accepted_fits}
 use Rattle.after_edit.proofs.FoundAgain.{edited_sound}
 use Rattle.carry.proofs.EditMoveLaws.{edit_moves}
+use Rattle.std.specs.Prelude.{Ok, Err}
+use Rattle.tree.specs.Number.{number}
+use Rattle.tree.specs.declared.Refusal.TheVariants.{BadMove}
 
-module _ (a : Act) (t : Table) (d : Done) (e : (outcome a t).answer ≡ Made d) (role row : List ℕ) where
+module _ (a : Act) (t : Table) (d : Done) (e : (outcome a t).answer ≡ Ok d) (role row : List ℕ) where
   -- the new list
   abbrev new_list : List Pair
   new_list = carried d.first d.moved (pairs_of role row)
 
   -- no check of the pairs gives 17
-  pairs_number : (p : ℕ) → pair_check role row t.count ≡ Refused 17 p → ⊥
+  pairs_number : pair_check role row t.count ≡ Err BadMove → ⊥
   unfolding pair_check given_at
-  pairs_number p x =
-      ⊎_elim (λ y. omega (arith, ((given_refused _ 3 0 17 p).0 y).1))
-      (λ y. ⊎_elim (λ z. omega (arith, ((given_refused _ 4 _ 17 p).0 z).1))
-      (λ z. omega (arith, ((given_refused _ 5 _ 17 p).0 z.1).1))
-      ((next_first _ _ 17 p).0 y.1))
-      ((next_first _ _ 17 p).0 x)
+  pairs_number x =
+      ⊎_elim (λ y. omega (arith, ap number ((given_refused _ _ _).0 y).1))
+      (λ y. ⊎_elim (λ z. omega (arith, ap number ((given_refused _ _ _).0 z).1))
+      (λ z. omega (arith, ap number ((given_refused _ _ _).0 z.1).1))
+      ((next_first _ _ BadMove).0 y.1))
+      ((next_first _ _ BadMove).0 x)
 
   -- nor does any other check of the call
-  check_number : (outRole outRow : List ℕ) (p : ℕ)
-      → carry_check role row t.count d.first d.moved outRole outRow ≡ Refused 17 p → ⊥
+  check_number : (outRole outRow : List ℕ)
+      → carry_check role row t.count d.first d.moved outRole outRow ≡ Err BadMove → ⊥
   unfolding carry_check room_check
-  check_number outRole outRow p x =
-      ⊎_elim (λ y. omega (arith, ((given_refused _ 1 0 17 p).0 y).1))
-      (λ y. ⊎_elim (pairs_number p)
+  check_number outRole outRow x =
+      ⊎_elim (λ y. omega (arith, ap number ((given_refused _ _ _).0 y).1))
+      (λ y. ⊎_elim pairs_number
       (λ z. ⊎_elim
-      (λ v. true≢false (sym ((given_refused _ 17 0 17 p).0 v).0
+      (λ v. true≢false (sym ((given_refused _ _ _).0 v).0
       ∙ ap not ((move_ok_lem t.count d.first d.moved).1 (edit_moves a t d e).fits)))
-      (λ v. omega (arith, ((given_refused _ 8 _ 17 p).0 v.1).1))
-      ((next_first _ _ 17 p).0 z.1))
-      ((next_first _ _ 17 p).0 y.1))
-      ((next_first _ _ 17 p).0 x)
+      (λ v. omega (arith, ap number ((given_refused _ _ _).0 v.1).1))
+      ((next_first _ _ BadMove).0 z.1))
+      ((next_first _ _ BadMove).0 y.1))
+      ((next_first _ _ BadMove).0 x)
 
   -- 17 is not given, whatever the pairs and the room
-  pub no_seventeen : (outRole outRow : List ℕ) (p : ℕ)
-      → (carry_outcome role row t.count d.first d.moved outRole outRow).answer ≡ NotCarried 17 p → ⊥
+  pub no_seventeen : (outRole outRow : List ℕ)
+      → (carry_outcome role row t.count d.first d.moved outRole outRow).answer ≡ Err BadMove → ⊥
   unfolding carry_outcome carry_if
-  no_seventeen outRole outRow p h = go (carry_check role row t.count d.first d.moved outRole outRow) refl h
+  no_seventeen outRole outRow h = go (carry_check role row t.count d.first d.moved outRole outRow) refl h
     where
       go : (c : Checked) → carry_check role row t.count d.first d.moved outRole outRow ≡ c
-          → (carry_if c new_list outRole outRow).answer ≡ NotCarried 17 p → ⊥
-      go Passed x h = let z : ◌≡◌ {A = ℕ} 0 1 = cc in omega arith
-      go (Refused m n) x h = check_number outRole outRow p (x ∙ cc)
+          → (carry_if c new_list outRole outRow).answer ≡ Err BadMove → ⊥
+      go (Ok u) x h = let z : ◌≡◌ {A = ℕ} 0 1 = cc in omega arith
+      go (Err why) x h = check_number outRole outRow (x ∙ cc)
 
   -- pairs that fit the table, and room for the new list: carrying is accepted
   pub carry_takes : PairsFit role row t.count → (outRole outRow : List ℕ) → length new_list ≤ length outRole
       → length new_list ≤ length outRow
       → carry_outcome role row t.count d.first d.moved outRole outRow ≡ record {
-        answer = Written (length new_list);
+        answer = Ok (length new_list);
         role = overwritten (roles_of new_list) outRole;
         row = overwritten (rows_of new_list) outRow;
       }
@@ -97,7 +96,7 @@ module _ (a : Act) (t : Table) (d : Done) (e : (outcome a t).answer ≡ Made d) 
       → (pairs_of (take (length new_list) (overwritten (roles_of new_list) outRole))
       (take (length new_list) (overwritten (rows_of new_list) outRow)) ≡ new_list)
       × (pair_check (take (length new_list) (overwritten (roles_of new_list) outRole))
-      (take (length new_list) (overwritten (rows_of new_list) outRow)) (outcome a t).table.count ≡ Passed)
+      (take (length new_list) (overwritten (rows_of new_list) outRow)) (outcome a t).table.count ≡ passed)
   unfolding overwritten
   next_takes f outRole outRow =
       let m = edit_moves a t d e in

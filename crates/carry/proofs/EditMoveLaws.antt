@@ -13,7 +13,6 @@ use Rattle.tree.specs.Edit.{gap_of, inserted, deleted, renamed, minus, insert_do
 use Rattle.tree.specs.Carry.{row_after, was_deleted}
 use Rattle.tree.specs.CarryRules.{MoveFits, gone_row}
 use Rattle.tree.specs.declared.Done.{Done}
-use Rattle.tree.specs.declared.Edited.TheVariants.{Made}
 use Rattle.tree.proofs.SoundLaws.{given_passed}
 use Rattle.tree.proofs.AcceptLaws.{insert_passes}
 use Rattle.tree.proofs.OneTreeLaws.{Lone, one_delete}
@@ -24,6 +23,7 @@ use Rattle.after_edit.proofs.ActLaws.{Fits, accepted_has, after_sound}
 use Rattle.after_edit.proofs.FoundAgain.{plus_minus, after_gap}
 use Rattle.after_edit.proofs.GoneLaws.{in_gap}
 use Rattle.moves.proofs.GoneRowLaws.{between, before_it, behind_it}
+use Rattle.std.specs.Prelude.{Ok}
 
 -- ── the row after the edit ──
 -- what commute says of an edit's answer is what carrying does with its two numbers
@@ -97,7 +97,7 @@ after_moves (renaming k m) t f =
     }
 
 -- an accepted edit's answer fits
-pub edit_moves : (a : Act) (t : Table) (d : Done) → (outcome a t).answer ≡ Made d → Moved t d (outcome a t).table
+pub edit_moves : (a : Act) (t : Table) (d : Done) → (outcome a t).answer ≡ Ok d → Moved t d (outcome a t).table
 edit_moves a t d e = accepted_has (Moved t) a t d e (after_moves a t)
 
 -- by the definitions, in a table of one tree
@@ -111,14 +111,14 @@ after_lands (deletion k) t f o to e =
     let d : pos (row_named (deletion k) t) ≡ pos to = sym (lands_at t (row_named (deletion k) t)) ∙ e in
     let z : row_named (deletion k) t ≡ to = cc in
     let p = sym (one_delete t f.sound o (row_named (deletion k) t) f.found) ∙ f.passes in
-    let n : row_named (deletion k) t ≡ 0 → ⊥ = eqb-false _ _ (given_passed _ _ _ p) in
+    let n : row_named (deletion k) t ≡ 0 → ⊥ = eqb-false _ _ (given_passed _ _ p) in
     omega arith
 after_lands (renaming k m) t f o to e =
     let z : t.count + 0 ≡ to = cc in
     omega (arith, f.sound.in_use.some)
 
 -- in a table of one tree no accepted edit brings the first moved row to row 0: what E2 changed of 17 is not met there
-pub one_lands : (a : Act) (t : Table) (d : Done) → (outcome a t).answer ≡ Made d → Lone t.level t.count
+pub one_lands : (a : Act) (t : Table) (d : Done) → (outcome a t).answer ≡ Ok d → Lone t.level t.count
     → (to : ℕ) → pos d.first +ℤ d.moved ≡ pos to → 1 ≤ to
 one_lands a t d e o =
     accepted_has (λ (d : Done) (u : Table). (to : ℕ) → pos d.first +ℤ d.moved ≡ pos to → 1 ≤ to) a t d e
@@ -149,7 +149,7 @@ after_dropped (deletion k) t f w l = rw (lands_at t (row_named (deletion k) t)) 
 after_dropped (renaming k m) t f w l = before_it (t.count + 0) t.count w (omega arith)
 
 -- a row of the table is dropped exactly if the accepted edit deletes it
-pub deleted_goes : (a : Act) (t : Table) (d : Done) → (outcome a t).answer ≡ Made d
+pub deleted_goes : (a : Act) (t : Table) (d : Done) → (outcome a t).answer ≡ Ok d
     → (w : ℕ) → w < t.count → was_deleted d.first d.moved w ≡ goes a t w
 deleted_goes a t d e w l =
     accepted_has (λ (d : Done) (u : Table). was_deleted d.first d.moved w ≡ goes a t w) a t d e

@@ -18,8 +18,6 @@ use Rattle.tree.specs.Pairs.{Pair, pair}
 use Rattle.tree.specs.Outcome.{find_outcome, found_at}
 use Rattle.tree.specs.Carry.{row_after, was_deleted, carried_by, carried}
 use Rattle.tree.specs.declared.Done.{Done}
-use Rattle.tree.specs.declared.Edited.TheVariants.{Made}
-use Rattle.tree.specs.declared.Found.TheVariants.{Refused as NotFound}
 use Rattle.tree.proofs.SoundLaws.{find_at}
 use Rattle.tree.proofs.AcceptLaws.{no_key}
 use Rattle.tree.proofs.EditLaws.{row_key}
@@ -32,13 +30,15 @@ use Rattle.after_edit.proofs.FoundAgain.{edited_sound, row_again}
 use Rattle.after_edit.proofs.GoneLaws.{gone}
 use Rattle.carry.specs.Refound.{refound_at, refound, still_there, by_key}
 use Rattle.carry.proofs.EditMoveLaws.{moved_to_is, deleted_goes}
+use Rattle.std.specs.Prelude.{Ok, Err}
+use Rattle.tree.specs.declared.Refusal.TheVariants.{UnknownKey}
 
 -- ── carrying is finding again ──
 -- every pair's row is a row of the table: what refusal 5 leaves
 abbrev pub Inside : Table → List Pair → Type 0
 Inside t ps = (p : Pair) → In p ps → p.row < t.count
 
-module _ (a : Act) (t : Table) (d : Done) (e : (outcome a t).answer ≡ Made d) where
+module _ (a : Act) (t : Table) (d : Done) (e : (outcome a t).answer ≡ Ok d) where
   -- a row that goes is not found again, and any other is found where carrying puts it
   row_refound : (w : ℕ) → w < t.count → (b : Bool) → goes a t w ≡ b
       → (not (ltb (refound_at t (outcome a t).table w) (outcome a t).table.count) ≡ b)
@@ -69,17 +69,17 @@ module _ (a : Act) (t : Table) (d : Done) (e : (outcome a t).answer ≡ Made d) 
   -- a row's pairs are dropped exactly when its key is gone
   pub dropped_gone : (w : ℕ) → w < t.count
       → (was_deleted d.first d.moved w ≡ true)
-      ↔ (find_outcome (outcome a t).table (at t.key w) ≡ NotFound 9 0)
+      ↔ (find_outcome (outcome a t).table (at t.key w) ≡ Err UnknownKey)
   dropped_gone w l = (
     λ h. gone a t d e w l (sym (deleted_goes a t d e w l) ∙ h),
     λ h. deleted_goes a t d e w l ∙ back (goes a t w) refl h,
   )
     where
-      back : (b : Bool) → goes a t w ≡ b → find_outcome (outcome a t).table (at t.key w) ≡ NotFound 9 0 → b ≡ true
+      back : (b : Bool) → goes a t w ≡ b → find_outcome (outcome a t).table (at t.key w) ≡ Err UnknownKey → b ≡ true
       back true g h = refl
       back false g h =
           let (v, r) = row_again a t d e w l g in
-          let z : NotFound 9 0 ≡ found_at (outcome a t).table v =
+          let z : Err UnknownKey ≡ found_at (outcome a t).table v =
           sym h ∙ ap (find_outcome (outcome a t).table) (sym r.key)
           ∙ find_row (outcome a t).table (edited_sound a t (d, e)) v r.in_use in
           let y : ◌≡◌ {A = ℕ} 0 1 = cc in
@@ -101,7 +101,7 @@ refound_keys t u (p ∷ ps) = go (ltb (refound_at t u p.row) u.count) refl (refo
     go false e ih = ih
 
 -- each remaining pair names the same key as before, and its role
-pub same_keys : (a : Act) (t : Table) (d : Done) → (outcome a t).answer ≡ Made d → (ps : List Pair) → Inside t ps
+pub same_keys : (a : Act) (t : Table) (d : Done) → (outcome a t).answer ≡ Ok d → (ps : List Pair) → Inside t ps
     → by_key (outcome a t).table (carried d.first d.moved ps) ≡ by_key t (still_there t (outcome a t).table ps)
 same_keys a t d e ps i =
     ap (by_key (outcome a t).table) (carry_refinds a t d e ps i) ∙ refound_keys t (outcome a t).table ps
@@ -135,7 +135,7 @@ refound_in t u s ps q = (there, back)
         (carried_in _ _ q ps).1 (w, j, ap not (lt-ltb (refound_at t u w) u.count (omega arith)), sym f)
 
 -- after the edit a role holds exactly the keys that it held, but for those gone
-pub grants_stay : (a : Act) (t : Table) (d : Done) → (outcome a t).answer ≡ Made d → (ps : List Pair) → Inside t ps
+pub grants_stay : (a : Act) (t : Table) (d : Done) → (outcome a t).answer ≡ Ok d → (ps : List Pair) → Inside t ps
     → (r k : ℕ) → Holds (outcome a t).table (carried d.first d.moved ps) r k
     ↔ (Holds t ps r k × ((i : ℕ) × (find_outcome (outcome a t).table k ≡ found_at (outcome a t).table i)))
 grants_stay a t d e ps i r k = rw (carry_refinds a t d e ps i) (there, back)

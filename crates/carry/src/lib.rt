@@ -9,7 +9,7 @@ use basics::smaller;
 use moves::checks;
 use moves::moved::moved_to;
 use pairs_left::Move;
-use tree::{Carried, Checked};
+use tree::Refusal;
 
 // The pairs after an edit of a table of so many rows, told by the edit's first moved row and move: their number, and
 // they stand at the front of the result columns; or refusal 1, 3, 4, 5, 17 or 8, which changes no column.
@@ -21,29 +21,24 @@ pub fn carry(
     moved: i64,
     out_role: &mut [usize],
     out_row: &mut [usize],
-) -> Carried
+) -> Result<usize, Refusal>
     ensures { CarryLeaves (carry_outcome role.now row.now old_count first moved
         out_role.old out_row.old)
         result out_role.new out_row.new }
 {
-    let checked = checks::check_call(role, row, old_count, first, moved);
-    match checked {
-        Checked::Refused(number, place) => Carried::Refused(number, place),
-        Checked::Passed => {
-            let to = moved_to(old_count, first, moved, first);
-            let left = pairs_left::count_left(row, to, first);
-            let short = smaller(out_role.len(), out_row.len()) < left;
-            if short {
-                return Carried::Refused(8, left);
-            }
-            let edit = Move {
-                old: old_count,
-                first,
-                moved,
-                to,
-            };
-            pairs_left::write(role, row, edit, left, out_role, out_row);
-            Carried::Written(left)
-        }
+    checks::check_call(role, row, old_count, first, moved)?;
+    let to = moved_to(old_count, first, moved, first);
+    let left = pairs_left::count_left(row, to, first);
+    let short = smaller(out_role.len(), out_row.len()) < left;
+    if short {
+        return Err(Refusal::TooManyResults(left));
     }
+    let edit = Move {
+        old: old_count,
+        first,
+        moved,
+        to,
+    };
+    pairs_left::write(role, row, edit, left, out_role, out_row);
+    Ok(left)
 }

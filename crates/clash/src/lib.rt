@@ -2,21 +2,21 @@
 #![tactic(auto)]
 
 ghost use Rattle.std.specs.Prelude.{◌≡◌, ◌≤◌, length};
-ghost use Rattle.keys.specs.Chain.{ChainRoom, Chained};
+ghost use Rattle.keys.specs.Chain.{Empty, Chained};
 ghost use Rattle.clash.specs.FirstClash.{first_clash};
 
-use keys::{link, row_in, row_of};
+use keys::{Chains, row_of, with_chains};
 
 // Chains the first n rows, without a test of their keys.
-fn chain(key: &[usize], n: usize, heads: &mut [u16], next: &mut [u16], shift: usize)
+fn chain(key: &[usize], n: usize, chains: &mut Chains<'_>)
     requires n_in_bounds { n ≤ length key.now }
-    requires chain_room { ChainRoom heads.old next.old shift n }
-    requires chained { Chained shift key.now heads.old next.old 0 }
-    ensures { Chained shift key.now heads.new next.new n }
+    requires n_in_room { n ≤ length chains.old.next.now }
+    requires empty { Empty chains.old.heads.now }
+    ensures room { length chains.new.next.now ≡ length chains.old.next.now }
+    ensures chained { Chained chains.new.shift key.now chains.new.heads.now chains.new.next.now n }
 {
-    let mut i = 0;
-    while i < n {
-        i = link(key, i, heads, next, shift);
+    for i in 0..n {
+        chains.link(key, i);
     }
 }
 
@@ -26,82 +26,34 @@ fn clash_by_rows(key: &[usize], n: usize, piece: &[usize], m: usize) -> usize
     requires m_in_bounds { m ≤ length piece.now }
     ensures { result ≡ first_clash key.now n piece.now m }
 {
-    let mut i = 0;
-    while i < m {
+    for i in 0..m {
         let taken = row_of(key, n, piece[i]) < n;
         if taken {
             return i;
         }
-        i += 1;
     }
-    i
+    m
 }
 
 // The same by the chains of the first n rows. No row is chained at first.
-fn clash_in(
-    key: &[usize],
-    n: usize,
-    piece: &[usize],
-    m: usize,
-    heads: &mut [u16],
-    next: &mut [u16],
-    shift: usize,
-) -> usize
+fn clash_in(key: &[usize], n: usize, piece: &[usize], m: usize, chains: &mut Chains<'_>) -> usize
     requires n_in_bounds { n ≤ length key.now }
     requires m_in_bounds { m ≤ length piece.now }
-    requires chain_room { ChainRoom heads.old next.old shift n }
-    requires chained { Chained shift key.now heads.old next.old 0 }
+    requires n_in_room { n ≤ length chains.old.next.now }
+    requires empty { Empty chains.old.heads.now }
     ensures { result ≡ first_clash key.now n piece.now m }
 {
-    chain(key, n, heads, next, shift);
-    let mut i = 0;
-    while i < m {
-        if row_in(key, n, piece[i], heads, next, shift) < n {
+    chain(key, n, chains);
+    for i in 0..m {
+        if chains.row_in(key, n, piece[i]) < n {
             return i;
         }
-        i += 1;
     }
-    i
+    m
 }
 
-// The same in columns of its own, as `keys::first_key` has them, in time linear in both where keys spread over the
-// buckets.
-fn clash_by_chains(key: &[usize], n: usize, piece: &[usize], m: usize) -> usize
-    requires n_bound { (n ≤ 4096) × (n ≤ length key.now) }
-    requires m_in_bounds { m ≤ length piece.now }
-    ensures { result ≡ first_clash key.now n piece.now m }
-{
-    if n <= 16 {
-        let mut heads = [0u16; 64];
-        let mut next = [0u16; 16];
-        return clash_in(key, n, piece, m, &mut heads, &mut next, 26);
-    }
-    if n <= 32 {
-        let mut heads = [0u16; 128];
-        let mut next = [0u16; 32];
-        return clash_in(key, n, piece, m, &mut heads, &mut next, 25);
-    }
-    if n <= 64 {
-        let mut heads = [0u16; 256];
-        let mut next = [0u16; 64];
-        return clash_in(key, n, piece, m, &mut heads, &mut next, 24);
-    }
-    if n <= 256 {
-        let mut heads = [0u16; 1024];
-        let mut next = [0u16; 256];
-        return clash_in(key, n, piece, m, &mut heads, &mut next, 22);
-    }
-    if n <= 1024 {
-        let mut heads = [0u16; 4096];
-        let mut next = [0u16; 1024];
-        return clash_in(key, n, piece, m, &mut heads, &mut next, 20);
-    }
-    let mut heads = [0u16; 16384];
-    let mut next = [0u16; 4096];
-    clash_in(key, n, piece, m, &mut heads, &mut next, 18)
-}
-
-// The same by the way that is faster for the piece.
+// The same by the way that is faster for the piece: with chains of its own, in time linear in both where keys spread
+// over the buckets.
 pub fn first_clash(key: &[usize], n: usize, piece: &[usize], m: usize) -> usize
     requires n_bound { (n ≤ 4096) × (n ≤ length key.now) }
     requires m_in_bounds { m ≤ length piece.now }
@@ -110,5 +62,5 @@ pub fn first_clash(key: &[usize], n: usize, piece: &[usize], m: usize) -> usize
     if m <= 4 {
         return clash_by_rows(key, n, piece, m);
     }
-    clash_by_chains(key, n, piece, m)
+    with_chains(n, |chains| clash_in(key, n, piece, m, chains))
 }

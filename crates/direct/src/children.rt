@@ -1,92 +1,77 @@
 // The children of a row, from one of them on and before another, written as they are met: a walk by hops over subtrees.
 ghost use Rattle.std.specs.Prelude.{◌<◌, ◌≤◌};
-ghost use Rattle.scan.specs.Want.{fits};
+ghost use Rattle.scan.specs.Want.{accepts};
 ghost use Rattle.scan.specs.Range.{rows_in, Appended};
 ghost use Rattle.direct.specs.Children.{child_that, ChildOrEnd, ChildrenIn};
 
-use scan::want::{Want, fits_row};
+use scan::trees::Trees;
+use scan::want::NodeTest;
 
-// Where a walk from child to child is: the next row, and how many rows are written.
+// Where a walk from child to child is: the next row, and how many rows are written. Of one shape with the walk of
+// `marks` over a word, and not one struct with it: the second number of each has its own name and meaning.
 #[derive(Clone, Copy)]
 struct Stand {
     row: usize,
     written: usize,
 }
 
-// Appends children of row p that fit, from child `row` on and before row `end`: the leaves that follow one another, and
-// the child after them. After a leaf the next row is known before its size has been read.
+// Appends children of row p that fit, from the child at which the walk is and before row `end`: the leaves that follow
+// one another, and the child after them. After a leaf the next row is known before its size has been read.
 fn append_leaves(
-    size: &[usize],
-    level: &[usize],
-    kind: &[usize],
-    name: &[usize],
-    count: usize,
+    trees: &Trees<'_>,
+    test: &NodeTest<'_>,
     p: usize,
-    row: usize,
+    at: Stand,
     end: usize,
-    want: Want,
     out: &mut [usize],
-    written: usize,
 ) -> Stand
-    requires { (row < end) × ChildrenIn size.now level.now kind.now name.now count p row end
-        want out.old written }
-    ensures { (row < result.row) × (result.row ≤ end)
-        × ChildOrEnd size.now level.now p result.row
+    requires { (at.row < end) × ChildrenIn trees.now test.now p at.row end out.old at.written }
+    ensures { (at.row < result.row) × (result.row ≤ end)
+        × ChildOrEnd trees.now.size.now trees.now.level.now p result.row
         × Appended
-        (rows_in (child_that (fits want kind.now name.now)
-        level.now p) row result.row)
-        out.old written result.written out.new }
+        (rows_in (child_that (accepts test.now) trees.now.level.now p) at.row result.row)
+        out.old at.written result.written out.new }
 {
-    let mut w = row;
-    let mut next = written;
-    while w < end {
-        if fits_row(kind, name, w, want) {
-            out[next] = w;
-            next = next + 1;
+    let size = trees.size;
+    let mut written = at.written;
+    for w in at.row..end {
+        if test.fits(w) {
+            out[written] = w;
+            written += 1;
         }
         let below = size[w];
-        w = w + 1;
         if below != 0 {
             return Stand {
-                row: w + below,
-                written: next,
+                row: w + 1 + below,
+                written,
             };
         }
     }
-    Stand {
-        row: w,
-        written: next,
-    }
+    Stand { row: end, written }
 }
 
 // Appends the children of row p from row `from` on and before row `end` that fit; answers how many are written then.
 // Both rows are children of p, or the end of its descendants.
 pub fn append_children(
-    size: &[usize],
-    level: &[usize],
-    kind: &[usize],
-    name: &[usize],
-    count: usize,
+    trees: &Trees<'_>,
+    test: &NodeTest<'_>,
     p: usize,
     from: usize,
     end: usize,
-    want: Want,
     out: &mut [usize],
     written: usize,
 ) -> usize
-    requires { ChildrenIn size.now level.now kind.now name.now count p from end
-        want out.old written }
+    requires { ChildrenIn trees.now test.now p from end out.old written }
     ensures { Appended
-        (rows_in (child_that (fits want kind.now name.now)
-        level.now p) from end)
+        (rows_in (child_that (accepts test.now) trees.now.level.now p) from end)
         out.old written result out.new }
 {
-    let mut w = from;
-    let mut next = written;
-    while w < end {
-        let s = append_leaves(size, level, kind, name, count, p, w, end, want, out, next);
-        w = s.row;
-        next = s.written;
+    let trees = *trees;
+    let test = *test;
+    let mut at = Stand { row: from, written };
+    // The next child is where the one before ends.
+    while at.row < end {
+        at = append_leaves(&trees, &test, p, at, end, out);
     }
-    next
+    at.written
 }

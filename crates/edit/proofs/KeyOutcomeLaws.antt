@@ -10,23 +10,20 @@ use lib.Dec.{ltb}
 use Rattle.tree.specs.Table.{Table}
 use Rattle.tree.specs.Sound.{row_of}
 use Rattle.tree.specs.Edit.{inserted, deleted, renamed, insert_done, delete_done, rename_done}
-use Rattle.tree.specs.Refusal.{next, table_check, insert_check, delete_check, rename_check}
-use Rattle.tree.specs.Outcome.{row_there, check_outcome, located, found_if, find_outcome, found_at, edit_if, edit_check}
-use Rattle.tree.specs.Outcome.{insert_outcome, delete_outcome, rename_outcome}
-use Rattle.tree.specs.declared.Checked.{Checked}
-use Rattle.tree.specs.declared.Checked.TheVariants.{Passed, Refused}
+use Rattle.tree.specs.Refusal.{next, table_check, insert_check, delete_check, rename_check, Checked, passed}
+use Rattle.tree.specs.Outcome.{row_there, check_outcome, located, find_outcome, found_at, edit_if, edit_check}
+use Rattle.tree.specs.Outcome.{insert_outcome, delete_outcome, rename_outcome, Found, Edited}
 use Rattle.tree.specs.declared.Located.{Located}
-use Rattle.tree.specs.declared.Found.{Found}
-use Rattle.tree.specs.declared.Found.TheVariants.{At, Refused as NotFound}
 use Rattle.tree.specs.declared.Done.{Done}
-use Rattle.tree.specs.declared.Edited.{Edited}
-use Rattle.tree.specs.declared.Edited.TheVariants.{Refused as EditRefused}
 use Rattle.tree.proofs.SoundLaws.{table_passes, find_at}
 use Rattle.tree.proofs.FindLaws.{find_stands}
 use Rattle.table.specs.RowFound.{RowKnown, RowFound}
 use Rattle.edit_at.specs.AtRow.{insert_at, delete_at, rename_at}
 use Rattle.edit_at.specs.EditLeaves.{EditLeaves}
 use Rattle.edit_at.proofs.OutcomeLaws.{leaves, own_refused, key_unknown, key_there}
+use Rattle.std.specs.Prelude.{Ok, Err}
+use Rattle.tree.specs.declared.Refusal.TheVariants.{UnknownKey}
+use Rattle.tree.specs.declared.Refusal.{Refusal}
 
 module _ (t : Table) (k : ℕ) where
   -- the row of the key, if it is in use
@@ -34,42 +31,42 @@ module _ (t : Table) (k : ℕ) where
   row = row_of t.key t.count k
 
   -- ── a refusal of the table: 1 or 2, which the edit answers, and leaves the columns as they were ──
-  pub check_refused : (own : Checked) (d : Done) (t' : Table) {c : Checked} {a : Edited} {m p : ℕ}
-      → c ≡ check_outcome t → c ≡ Refused m p → a ≡ EditRefused m p
+  pub check_refused : (own : Checked) (d : Done) (t' : Table) {c : Checked} {a : Edited} {why : Refusal}
+      → c ≡ check_outcome t → c ≡ Err why → a ≡ Err why
       → EditLeaves (edit_if (edit_check t k own) d t' t) a t.key t.size t.level t.kind t.name
   unfolding check_outcome edit_check next
-  check_refused own d t' {c} {a} {m} {p} h e q =
-      let z : table_check t ≡ Refused m p = sym h ∙ e in
+  check_refused own d t' {c} {a} {why} h e q =
+      let z : table_check t ≡ Err why = sym h ∙ e in
       rw q (leaves t (own_refused d t' t (rw z)))
 
-module _ (t : Table) (k : ℕ) {c : Checked} (checked : c ≡ check_outcome t) (passed : c ≡ Passed)
+module _ (t : Table) (k : ℕ) {c : Checked} (checked : c ≡ check_outcome t) (good : c ≡ passed)
     {f : Found} (answer : f ≡ located t.key t.level t.count k) where
-  passes : table_check t ≡ Passed
+  passes : table_check t ≡ passed
   unfolding check_outcome
-  passes = sym checked ∙ passed
+  passes = sym checked ∙ good
 
   as_found : f ≡ find_outcome t k
-  unfolding find_outcome found_if
+  unfolding find_outcome next
   as_found = rw passes answer
 
   -- ── refusal 9 ──
-  not_found : (own : Checked) {m p : ℕ} → f ≡ NotFound m p → edit_check t k own ≡ Refused 9 0
+  not_found : (own : Checked) {why : Refusal} → f ≡ Err why → edit_check t k own ≡ Err UnknownKey
   unfolding located
-  not_found own {m} {p} e =
+  not_found own {why} e =
       key_unknown t ((table_passes t).0 passes) k own (go (ltb (row t k) t.count) refl (sym answer ∙ e))
     where
-      go : (b : Bool) → ltb (row t k) t.count ≡ b → cond b (found_at t (row t k)) (NotFound 9 0) ≡ NotFound m p
+      go : (b : Bool) → ltb (row t k) t.count ≡ b → cond b (found_at t (row t k)) (Err UnknownKey) ≡ Err why
           → t.count ≤ row t k
       go true q h = let z : ◌≡◌ {A = ℕ} 0 1 = cc in absurd (omega arith)
       go false q h = ltb-false _ _ q
 
-  pub key_missing : (own : Checked) (d : Done) (t' : Table) {a : Edited} {m p : ℕ}
-      → f ≡ NotFound m p → a ≡ EditRefused 9 0
+  pub key_missing : (own : Checked) (d : Done) (t' : Table) {a : Edited} {why : Refusal}
+      → f ≡ Err why → a ≡ Err UnknownKey
       → EditLeaves (edit_if (edit_check t k own) d t' t) a t.key t.size t.level t.kind t.name
   key_missing own d t' e h = rw h (leaves t (own_refused d t' t (not_found own e)))
 
   -- ── a row ──
-  module _ {l : Located} (found : f ≡ At l) where
+  module _ {l : Located} (found : f ≡ Ok l) where
     -- what the edit at the row may count on
     pub known : RowFound t l
     known =

@@ -9,7 +9,7 @@ ghost use Rattle.edit_at.specs.EditLeaves.{EditLeaves};
 
 use edit_at::{deletion, renaming};
 use insert_at::insert_at;
-use tree::{Checked, Edited, Found};
+use tree::{Columns, Done, Refusal};
 
 // A piece becomes the last child of the row of a key, or refusal 1, 2, 9, 10, 11, 12, 13 or 14.
 pub fn insert(
@@ -26,7 +26,7 @@ pub fn insert(
     p_kind: &[usize],
     p_name: &[usize],
     p_count: usize,
-) -> Edited
+) -> Result<Done, Refusal>
     ensures { EditLeaves (insert_outcome
         (table_of key.old size.old level.old kind.old
         name.old count) parent_key
@@ -34,18 +34,28 @@ pub fn insert(
         p_name.now p_count)) result
         key.new size.new level.new kind.new name.new }
 {
-    let checked = table::check(key, size, level, kind, name, count);
-    if let Checked::Refused(number, place) = checked {
-        return Edited::Refused(number, place);
-    }
-    let found = table::locate(key, size, level, kind, name, count, parent_key);
-    let Found::At(located) = found else {
-        return Edited::Refused(9, 0);
+    let columns = Columns {
+        key,
+        size,
+        level,
+        kind,
+        name,
+        count,
     };
-    insert_at(
-        key, size, level, kind, name, count, located, p_key, p_size, p_level, p_kind, p_name,
-        p_count,
-    )
+    table::check_columns(&columns)?;
+    let found = table::locate(&columns, parent_key);
+    let Ok(located) = found else {
+        return Err(Refusal::UnknownKey);
+    };
+    let piece = Columns {
+        key: p_key,
+        size: p_size,
+        level: p_level,
+        kind: p_kind,
+        name: p_name,
+        count: p_count,
+    };
+    insert_at(key, size, level, kind, name, count, located, &piece)
 }
 
 // The row of a key goes with its descendants, or refusal 1, 2, 9 or 15.
@@ -57,19 +67,24 @@ pub fn delete(
     name: &mut [usize],
     count: usize,
     key_wanted: usize,
-) -> Edited
+) -> Result<Done, Refusal>
     ensures { EditLeaves (delete_outcome
         (table_of key.old size.old level.old kind.old
         name.old count) key_wanted) result
         key.new size.new level.new kind.new name.new }
 {
-    let checked = table::check(key, size, level, kind, name, count);
-    if let Checked::Refused(number, place) = checked {
-        return Edited::Refused(number, place);
-    }
-    let found = table::locate(key, size, level, kind, name, count, key_wanted);
-    let Found::At(located) = found else {
-        return Edited::Refused(9, 0);
+    let columns = Columns {
+        key,
+        size,
+        level,
+        kind,
+        name,
+        count,
+    };
+    table::check_columns(&columns)?;
+    let found = table::locate(&columns, key_wanted);
+    let Ok(located) = found else {
+        return Err(Refusal::UnknownKey);
     };
     deletion::delete_at(key, size, level, kind, name, count, located)
 }
@@ -84,19 +99,33 @@ pub fn rename(
     count: usize,
     key_wanted: usize,
     new_name: usize,
-) -> Edited
+) -> Result<Done, Refusal>
     ensures { EditLeaves (rename_outcome
         (table_of key.old size.old level.old kind.old
         name.old count) key_wanted new_name) result
         key.new size.new level.new kind.new name.new }
 {
-    let checked = table::check(key, size, level, kind, name, count);
-    if let Checked::Refused(number, place) = checked {
-        return Edited::Refused(number, place);
-    }
-    let found = table::locate(key, size, level, kind, name, count, key_wanted);
-    let Found::At(located) = found else {
-        return Edited::Refused(9, 0);
+    let columns = Columns {
+        key,
+        size,
+        level,
+        kind,
+        name,
+        count,
     };
-    renaming::rename_at(key, size, level, kind, name, count, located, new_name)
+    table::check_columns(&columns)?;
+    let found = table::locate(&columns, key_wanted);
+    let Ok(located) = found else {
+        return Err(Refusal::UnknownKey);
+    };
+    renaming::rename_at(
+        key,
+        size,
+        level,
+        kind,
+        name,
+        count,
+        located::row_there(located),
+        new_name,
+    )
 }

@@ -13,13 +13,10 @@ use Rattle.tree.specs.Table.{Table, table_of, at}
 use Rattle.tree.specs.Rules.{InUse}
 use Rattle.tree.specs.Tree.{ancestor, other_root}
 use Rattle.tree.specs.Edit.{changed, gap_of, deleted, delete_done}
-use Rattle.tree.specs.Refusal.{delete_check}
-use Rattle.tree.specs.Outcome.{EditOutcome}
+use Rattle.tree.specs.Refusal.{delete_check, passed}
+use Rattle.tree.specs.Outcome.{EditOutcome, Edited}
 use Rattle.tree.specs.declared.Child.{Child}
 use Rattle.tree.specs.declared.Located.TheVariants.{Root, Under as Below}
-use Rattle.tree.specs.declared.Edited.{Edited}
-use Rattle.tree.specs.declared.Edited.TheVariants.{Refused as NotMade}
-use Rattle.tree.specs.declared.Checked.TheVariants.{Passed}
 use Rattle.tree.proofs.TreeLaws.{Under, parent_less, ancestor_under}
 use Rattle.tree.proofs.SoundLaws.{sound_shape, sound_steps, given_not}
 use Rattle.tree.proofs.LastRootLaws.{only_root_is}
@@ -33,6 +30,8 @@ use Rattle.table.specs.RowFound.{RowKnown, RowFound}
 use Rattle.edit_at.specs.EditLeaves.{EditLeaves}
 use Rattle.edit_at.specs.AtRow.{closed_up, delete_at}
 use Rattle.edit_at.proofs.OutcomeLaws.{leaves, own_refused, own_passed}
+use Rattle.std.specs.Prelude.{Err}
+use Rattle.tree.specs.declared.Refusal.TheVariants.{DeletesRoot}
 
 module _ (t : Table) (r : ℕ) where
   -- the row and its descendants are in use
@@ -41,7 +40,7 @@ module _ (t : Table) (r : ℕ) where
   rows_fit k = gap_fits t k.sound r k.in_use
 
   -- the sizes above the row fell, then every column closed up
-  pub delete_made : delete_check t r ≡ Passed → {low : List ℕ}
+  pub delete_made : delete_check t r ≡ passed → {low : List ℕ}
       → low ≡ changed (λ i. ancestor t.level i r) (λ s. s - (at t.size r + 1)) t.size
       → {a : Edited} {key size level kind name : List ℕ}
       → EditLeaves (closed_up (table_of t.key low t.level t.kind t.name t.count) r (at t.size r + 1))
@@ -79,16 +78,16 @@ module _ (t : Table) (r : ℕ) where
 module _ (t : Table) (r : ℕ) (f : RowFound t (Root r)) where
   -- the only one stays
   pub root_refused : at t.size r + 1 ≡ t.count
-      → EditLeaves (delete_at t r) (NotMade 15 0) t.key t.size t.level t.kind t.name
+      → EditLeaves (delete_at t r) (Err DeletesRoot) t.key t.size t.level t.kind t.name
   unfolding delete_check
   root_refused e =
       let lone = only_root_is t f.known.sound r f.known.in_use ∙ eq-eqb _ _ e in
-      leaves t (own_refused _ _ t ((given_refused _ 15 0 15 0).1 (lone, refl, refl)))
+      leaves t (own_refused _ _ t ((given_refused _ _ _).1 (lone, refl)))
 
   -- another goes
-  pub root_passes : (at t.size r + 1 ≡ t.count → ⊥) → delete_check t r ≡ Passed
+  pub root_passes : (at t.size r + 1 ≡ t.count → ⊥) → delete_check t r ≡ passed
   unfolding delete_check
-  root_passes ne = given_not 15 0 (only_root_is t f.known.sound r f.known.in_use ∙ ne_eqb _ _ ne)
+  root_passes ne = given_not _ (only_root_is t f.known.sound r f.known.in_use ∙ ne_eqb _ _ ne)
 
   -- no row stands above it
   pub root_sizes : (by : ℕ) → t.size ≡ changed (λ i. ancestor t.level i r) (λ s. s - by) t.size
@@ -100,12 +99,12 @@ module _ (t : Table) (r : ℕ) (f : RowFound t (Root r)) where
 -- ── a row under a parent ──
 module _ (t : Table) (c : Child) (f : RowFound t (Below c)) where
   -- it always goes
-  pub child_passes : delete_check t c.row ≡ Passed
+  pub child_passes : delete_check t c.row ≡ passed
   unfolding delete_check
   child_passes =
       let (same, deep, up) = under_stands t.level c.row c (sym f.there) in
       let e : at t.level c.parent + 1 ≡ at t.level c.row = parent_less t.level c.row c.parent up in
-      given_not 15 0 (ap (λ (b : Bool). b && not (other_root t.level t.count c.row))
+      given_not _ (ap (λ (b : Bool). b && not (other_root t.level t.count c.row))
       (ne_eqb (at t.level c.row) 0 (λ z. omega arith)))
 
   -- its ancestors have the rows that go

@@ -4,8 +4,7 @@ use mathlib.Core.Path.{◌≡◌, sym, ◌∙◌}
 use mathlib.Core.List.{List}
 use Prim.Native.Nat.{ℕ}
 use Rattle.tree.specs.Table.{Table}
-use Rattle.tree.specs.Outcome.{EditOutcome, insert_outcome, delete_outcome, rename_outcome}
-use Rattle.tree.specs.declared.Edited.{Edited}
+use Rattle.tree.specs.Outcome.{EditOutcome, insert_outcome, delete_outcome, rename_outcome, Edited}
 use Rattle.edit_at.specs.EditLeaves.{EditLeaves}
 
 -- an answer and five columns are those of another call

@@ -7,23 +7,22 @@ use borrow.Author.Tests.{lt-ltb, le-ltb}
 use Rattle.tree.specs.Table.{Table}
 use Rattle.tree.specs.Sound.{row_of}
 use Rattle.tree.specs.Rules.{Sound}
-use Rattle.tree.specs.Refusal.{given, next, key_check}
-use Rattle.tree.specs.Outcome.{EditOutcome, edit_if, edit_check}
-use Rattle.tree.specs.declared.Checked.{Checked}
-use Rattle.tree.specs.declared.Checked.TheVariants.{Passed, Refused}
+use Rattle.tree.specs.Refusal.{given, next, key_check, Checked, passed}
+use Rattle.tree.specs.Outcome.{EditOutcome, edit_if, edit_check, Edited}
 use Rattle.tree.specs.declared.Done.{Done}
-use Rattle.tree.specs.declared.Edited.{Edited}
-use Rattle.tree.specs.declared.Edited.TheVariants.{Made, Refused as NotMade}
 use Rattle.tree.proofs.SoundLaws.{table_passes}
 use Rattle.edit_at.specs.EditLeaves.{EditLeaves}
+use Rattle.std.specs.Prelude.{Ok, Err}
+use Rattle.tree.specs.declared.Refusal.{Refusal}
+use Rattle.tree.specs.declared.Refusal.TheVariants.{UnknownKey}
 
--- refusal m with place p, and the table as it was
-abbrev pub refused : Table → ℕ → ℕ → EditOutcome
-refused t m p = record { answer = NotMade m p; table = t }
+-- a refusal, and the table as it was
+abbrev pub refused : Table → Refusal → EditOutcome
+refused t why = record { answer = Err why; table = t }
 
 -- the edit was made, and left the table t
 abbrev pub made : Done → Table → EditOutcome
-made d t = record { answer = Made d; table = t }
+made d t = record { answer = Ok d; table = t }
 
 -- what an outcome leaves
 pub leaves : {o : EditOutcome} {a : Edited} (t : Table) → o ≡ record { answer = a; table = t }
@@ -38,17 +37,17 @@ leaves t e = record {
 }
 
 -- ── the edit's own check ──
-pub own_refused : {c : Checked} (d : Done) (t' t : Table) {m p : ℕ} → c ≡ Refused m p → edit_if c d t' t ≡ refused t m p
+pub own_refused : {c : Checked} (d : Done) (t' t : Table) {why : Refusal} → c ≡ Err why → edit_if c d t' t ≡ refused t why
 unfolding edit_if
 own_refused d t' t e = ap (λ (c : Checked). edit_if c d t' t) e
 
-pub own_passed : {c : Checked} (d : Done) (t' t : Table) → c ≡ Passed → edit_if c d t' t ≡ made d t'
+pub own_passed : {c : Checked} (d : Done) (t' t : Table) → c ≡ passed → edit_if c d t' t ≡ made d t'
 unfolding edit_if
 own_passed d t' t e = ap (λ (c : Checked). edit_if c d t' t) e
 
 -- ── the checks before it ──
 module _ (t : Table) (s : Sound t) (k : ℕ) (own : Checked) where
-  pub key_unknown : t.count ≤ row_of t.key t.count k → edit_check t k own ≡ Refused 9 0
+  pub key_unknown : t.count ≤ row_of t.key t.count k → edit_check t k own ≡ Err UnknownKey
   unfolding edit_check key_check next given
   key_unknown l = rw ((table_passes t).1 s, le-ltb _ _ l)
 

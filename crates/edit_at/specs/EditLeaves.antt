@@ -2,8 +2,7 @@
 -- outcome, on every input, on refusals too. That two answers allowed by it are equal is `insert_only`, `delete_only`
 -- and `rename_only` (proofs/EditLeavesLaws.antt). Assumes nothing.
 use Rattle.std.specs.Prelude.{ℕ, ◌≡◌, List}
-use Rattle.tree.specs.Outcome.{EditOutcome}
-use Rattle.tree.specs.declared.Edited.{Edited}
+use Rattle.tree.specs.Outcome.{EditOutcome, Edited}
 
 -- the answer, and the columns at exit, are those of the outcome o
 pub record EditLeaves (o : EditOutcome) (answer : Edited) (key size level kind name : List ℕ) : Type 0 where

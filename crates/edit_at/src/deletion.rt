@@ -1,5 +1,7 @@
 // A deletion at a row that was found: RULES 01, "Finding and editing by key"; refusal 15; RULES 02, E3. Whether the row
-// is a root, and if not, its parent, is read from what was found.
+// is a root, and if not, its parent, is read from what was found. The five columns are lent one by one, not as one
+// struct as those to be read are (`tree::Columns`): the way up changes sizes and reads levels, and two fields behind one
+// reference cannot be lent at a time in what is proved.
 ghost use Rattle.std.specs.Prelude.{◌+◌, ◌≤◌};
 ghost use Rattle.tree.specs.Table.{table_of};
 ghost use Rattle.tree.specs.Rules.{InUse};
@@ -11,7 +13,7 @@ ghost use Rattle.edit_at.specs.AtRow.{closed_up, delete_at};
 
 use shift::done;
 use shift::mover::close_column;
-use tree::{Child, Edited, Located};
+use tree::{Child, Done, Located, Refusal};
 
 // From a row on, `by` rows go: later rows close up in all columns, and the freed rows are zero.
 fn close_rows(
@@ -23,7 +25,7 @@ fn close_rows(
     count: usize,
     row: usize,
     by: usize,
-) -> Edited
+) -> Result<Done, Refusal>
     requires in_use { InUse (table_of key.old size.old level.old kind.old name.old count) }
     requires by_bound { row + by ≤ count }
     ensures { EditLeaves (closed_up
@@ -37,7 +39,7 @@ fn close_rows(
     close_column(level, count, row, by);
     close_column(kind, count, row, by);
     close_column(name, count, row, by);
-    Edited::Made(done::after_deletion(count, gap, by))
+    Ok(done::after_deletion(count, gap, by))
 }
 
 // A root goes with its tree, or refusal 15 where that is the whole table: then it is the only root.
@@ -49,7 +51,7 @@ fn delete_root(
     name: &mut [usize],
     count: usize,
     row: usize,
-) -> Edited
+) -> Result<Done, Refusal>
     requires { RowFound (table_of key.old size.old level.old kind.old name.old count) (Root row) }
     ensures { EditLeaves (delete_at
         (table_of key.old size.old level.old kind.old
@@ -59,7 +61,7 @@ fn delete_root(
     let by = size[row] + 1;
     let only = by == count;
     if only {
-        return Edited::Refused(15, 0);
+        return Err(Refusal::DeletesRoot);
     }
     close_rows(key, size, level, kind, name, count, row, by)
 }
@@ -73,7 +75,7 @@ fn delete_child(
     name: &mut [usize],
     count: usize,
     child: Child,
-) -> Edited
+) -> Result<Done, Refusal>
     requires { RowFound (table_of key.old size.old level.old kind.old name.old count) (Under child) }
     ensures { EditLeaves (delete_at
         (table_of key.old size.old level.old kind.old
@@ -95,7 +97,7 @@ pub fn delete_at(
     name: &mut [usize],
     count: usize,
     located: Located,
-) -> Edited
+) -> Result<Done, Refusal>
     requires { RowFound (table_of key.old size.old level.old kind.old name.old count) located }
     ensures { EditLeaves (delete_at
         (table_of key.old size.old level.old kind.old

@@ -3,12 +3,11 @@ ghost use Rattle.std.specs.Prelude.{◌≡◌, not, ◌||◌, eqb};
 ghost use Rattle.tree.specs.Table.{table_of};
 ghost use Rattle.tree.specs.Sound.{has_name};
 ghost use Rattle.edit_at.specs.EditLeaves.{EditLeaves};
-ghost use Rattle.tree.specs.Outcome.{row_there};
-ghost use Rattle.table.specs.RowFound.{RowFound, RowKnown};
+ghost use Rattle.table.specs.RowFound.{RowKnown};
 ghost use Rattle.edit_at.specs.AtRow.{rename_at};
 
 use basics::either;
-use tree::{Done, Edited, Located};
+use tree::{Done, Refusal};
 
 // Whether a row of this kind cannot get this name: it has none, or the name is 0.
 fn unfit(kind: usize, new_name: usize) -> bool
@@ -18,7 +17,7 @@ fn unfit(kind: usize, new_name: usize) -> bool
 }
 
 // A row gets the new name, or refusal 16. The other columns stay, and nobody asks for the row's parent.
-pub fn rename_row(
+pub fn rename_at(
     key: &mut [usize],
     size: &mut [usize],
     level: &mut [usize],
@@ -27,7 +26,7 @@ pub fn rename_row(
     count: usize,
     row: usize,
     new_name: usize,
-) -> Edited
+) -> Result<Done, Refusal>
     requires { RowKnown (table_of key.old size.old level.old kind.old name.old count) row }
     ensures { EditLeaves (rename_at
         (table_of key.old size.old level.old kind.old
@@ -35,41 +34,12 @@ pub fn rename_row(
         key.new size.new level.new kind.new name.new }
 {
     if unfit(kind[row], new_name) {
-        return Edited::Refused(16, row);
+        return Err(Refusal::BadRename(row));
     }
     name[row] = new_name;
-    Edited::Made(Done {
+    Ok(Done {
         count,
         first: count,
         moved: 0,
     })
-}
-
-// The row found gets the new name, or refusal 16. The other columns stay, and nobody asks for the row's parent.
-pub fn rename_at(
-    key: &mut [usize],
-    size: &mut [usize],
-    level: &mut [usize],
-    kind: &mut [usize],
-    name: &mut [usize],
-    count: usize,
-    located: Located,
-    new_name: usize,
-) -> Edited
-    requires { RowFound (table_of key.old size.old level.old kind.old name.old count) located }
-    ensures { EditLeaves (rename_at
-        (table_of key.old size.old level.old kind.old
-        name.old count) (row_there located) new_name) result
-        key.new size.new level.new kind.new name.new }
-{
-    rename_row(
-        key,
-        size,
-        level,
-        kind,
-        name,
-        count,
-        located::row_there(located),
-        new_name,
-    )
 }

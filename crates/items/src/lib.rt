@@ -7,7 +7,7 @@ ghost use Rattle.tree.specs.Search.{least};
 ghost use Rattle.tree.specs.Batch.{wrong_code, list_check};
 
 use basics::either;
-use tree::Checked;
+use tree::Refusal;
 
 pub mod progress; // progress.rt: what was done so far, in the shape of the answer
 
@@ -16,28 +16,27 @@ fn first_wrong(code: &[usize], n: usize) -> usize
     requires { n ≤ length code.now }
     ensures { result ≡ least (wrong_code code.now) n }
 {
-    let mut i = 0;
-    while i < n {
-        if !either(code[i] == 1, code[i] == 2) {
+    for i in 0..n {
+        let right = (code[i] == 1) | (code[i] == 2);
+        if !right {
             return i;
         }
-        i += 1;
     }
-    i
+    n
 }
 
 // Refusal 18, or that the columns have one length, of at most 256, and no other code.
-pub fn check_list(code: &[usize], key: &[usize], name: &[usize]) -> Checked
+pub fn check_list(code: &[usize], key: &[usize], name: &[usize]) -> Result<(), Refusal>
     ensures { result ≡ list_check code.now key.now name.now }
 {
     let items = code.len();
     if either(either(items != key.len(), items != name.len()), 256 < items) {
-        return Checked::Refused(18, 0);
+        return Err(Refusal::BadList);
     }
     let first = first_wrong(code, items);
     let wrong = first < items;
     if wrong {
-        return Checked::Refused(18, 0);
+        return Err(Refusal::BadList);
     }
-    Checked::Passed
+    Ok(())
 }

@@ -2,17 +2,16 @@
 ghost use Rattle.std.specs.Prelude.{◌≡◌, ◌<◌};
 ghost use Rattle.items.specs.SoFar.{nothing_done, goes_on, after_item};
 
-use tree::{Batched, Checked, Edited};
+use tree::{Batched, Done, Refusal};
 
 // Nothing was done, because of a refusal.
-pub fn nothing_done(count: usize, number: usize, place: usize) -> Batched
-    ensures { result ≡ nothing_done count number place }
+pub fn nothing_done(count: usize, why: Refusal) -> Batched
+    ensures { result ≡ nothing_done count why }
 {
-    let end = Checked::Refused(number, place);
     Batched {
         done: 0,
         count,
-        end,
+        end: Err(why),
     }
 }
 
@@ -20,29 +19,25 @@ pub fn nothing_done(count: usize, number: usize, place: usize) -> Batched
 pub fn goes_on(so_far: Batched, items: usize) -> bool
     ensures { result ≡ goes_on so_far items }
 {
-    let end = so_far.end;
-    match end {
-        Checked::Passed => so_far.done < items,
-        Checked::Refused(_, _) => false,
-    }
+    so_far.end.is_ok() && so_far.done < items
 }
 
 // What was done, one item later.
-pub fn after_item(so_far: Batched, edited: Edited) -> Batched
+pub fn after_item(so_far: Batched, edited: Result<Done, Refusal>) -> Batched
     requires { so_far.done < 256 }
     ensures { result ≡ after_item so_far edited }
 {
     let tried = so_far.done + 1;
     match edited {
-        Edited::Made(done) => Batched {
+        Ok(done) => Batched {
             done: tried,
             count: done.count,
-            end: Checked::Passed,
+            end: Ok(()),
         },
-        Edited::Refused(number, place) => Batched {
+        Err(why) => Batched {
             done: so_far.done,
             count: so_far.count,
-            end: Checked::Refused(number, place),
+            end: Err(why),
         },
     }
 }

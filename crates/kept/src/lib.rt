@@ -7,13 +7,14 @@ ghost use Rattle.links.specs.Links.{side_axis};
 ghost use Rattle.kept_rows.specs.KeptOf.{kept_of, KeptIn};
 
 use kept_rows::{kept_distinct, kept_innermost, kept_outermost};
+use scan::trees::Trees;
 
 // Axes 8 and 9: in how many trees there are contexts, of one or more: that of the first one, and each whose root is not
 // that of the context before. Most often there is one, so first and last are asked before the others.
-fn kept_trees(size: &[usize], level: &[usize], count: usize, top: &[usize], rows: &[usize]) -> usize
-    requires kept_in { KeptIn size.now level.now count rows.now × (0 < length rows.now) }
-    requires roots { Roots level.now count top.now }
-    ensures { result ≡ kept_of 8 level.now rows.now }
+fn kept_trees(trees: &Trees<'_>, top: &[usize], rows: &[usize]) -> usize
+    requires kept_in { KeptIn trees.now rows.now × (0 < length rows.now) }
+    requires roots { Roots trees.now.level.now trees.now.count top.now }
+    ensures { result ≡ kept_of 8 trees.now.level.now rows.now }
 {
     let first = rows[0];
     let last = rows[rows.len() - 1];
@@ -21,38 +22,29 @@ fn kept_trees(size: &[usize], level: &[usize], count: usize, top: &[usize], rows
         return 1;
     }
     let mut kept = 1;
-    let mut i = 1;
-    while i < rows.len() {
+    for i in 1..rows.len() {
         let before = rows[i - 1];
         let c = rows[i];
         if top[before] < top[c] {
             kept += 1;
         }
-        i += 1;
     }
     kept
 }
 
 // How many distinct contexts of one role remain on an axis when redundant ones are dropped. Of fewer than two all do.
-pub fn kept_of(
-    size: &[usize],
-    level: &[usize],
-    count: usize,
-    up: &[usize; 4096],
-    rows: &[usize],
-    axis: usize,
-) -> usize
-    requires kept_in { KeptIn size.now level.now count rows.now }
-    requires roots { side_axis axis ≡ true → Roots level.now count up.now }
-    ensures { result ≡ kept_of axis level.now rows.now }
+pub fn kept_of(trees: &Trees<'_>, up: &[usize; 4096], rows: &[usize], axis: usize) -> usize
+    requires kept_in { KeptIn trees.now rows.now }
+    requires roots { side_axis axis ≡ true → Roots trees.now.level.now trees.now.count up.now }
+    ensures { result ≡ kept_of axis trees.now.level.now rows.now }
 {
     if rows.len() < 2 {
         return rows.len();
     }
     match axis {
-        3 | 4 => kept_outermost(size, level, count, rows),
-        6 | 7 => kept_innermost(size, level, count, rows),
-        8 | 9 => kept_trees(size, level, count, up, rows),
-        _ => kept_distinct(size, level, count, rows),
+        3 | 4 => kept_outermost(trees, rows),
+        6 | 7 => kept_innermost(trees, rows),
+        8 | 9 => kept_trees(trees, up, rows),
+        _ => kept_distinct(trees, rows),
     }
 }

@@ -1,5 +1,5 @@
 -- The walk along a chain finds the row of a key: `walk_start`, `walk_step`, `walk_hit`, `walk_less`, and at its end
--- `walk_end`. Chains start empty and grow by a row: `none_chained`, `cleared`, `room_for`, `chained_more`. These hold
+-- `walk_end`. Chains start empty and grow by a row: `zeros_empty`, `none_chained`, `chained_more`. These hold
 -- however many buckets there are. A bucket is one of them: `bucket_lt`. The test of a key: `key_zero`, `key_new`.
 -- Assumes nothing.
 use mathlib.Core.Path.{◌≡◌, refl, sym, ap, subst, ◌∙◌}
@@ -16,14 +16,18 @@ use lib.ListN.{length, get_or, set, replicate, get_or-replicate, length-replicat
 use lib.Pow.{shr_lt}
 use lib.Seq.{get_or-set_same, get_or-set_other}
 use Rattle.tree.specs.Search.{nearest}
-use Rattle.tree.specs.Table.{most_rows, at}
+use Rattle.tree.specs.Table.{at}
 use Rattle.tree.specs.Sound.{row_of, key_ok}
 use Rattle.tree.proofs.SearchLaws.{least_none, least_at, least_le, nearest_le, nearest_skip, nearest_in}
-use Rattle.keys.specs.Chain.{spread_of, buckets_of, bucket_of, last_in, ChainRoom, Chained}
+use Rattle.keys.specs.Chain.{spread_of, buckets_of, bucket_of, last_in, Empty, Chained}
 
 spread_lt : (x : ℕ) → spread_of x < 2 ^ 32
 unfolding spread_of
 spread_lt x = mod-lt _ (lit< tt)
+
+-- zeros are empty buckets
+pub zeros_empty : (n : ℕ) → Empty (replicate n 0)
+zeros_empty n = record { none = λ b k. get_or-replicate n b 0 0 (simp length-replicate at k) }
 
 module _ (shift : ℕ) where
   pub bucket_lt : (x : ℕ) → shift ≤ 32 → bucket_of shift x < buckets_of shift
@@ -94,36 +98,11 @@ module _ (shift : ℕ) where
 
   -- no row is chained where all buckets are empty
   pub none_chained : (key heads next : List ℕ) → buckets_of shift ≤ length heads
-      → ((b : ℕ) → b < length heads → at heads b ≡ 0) → Chained shift key heads next 0
+      → Empty heads → Chained shift key heads next 0
   unfolding last_in nearest
   none_chained key heads next l h = record {
-    heads_at = λ b k. h b (lt_of_lt_of_le k l);
+    heads_at = λ b k. h.none b (lt_of_lt_of_le k l);
     next_at = λ j k. absurd (not-suc-le-zero k);
-  }
-
-  -- columns of zeros have room for as many buckets and rows as they are long, and no row is chained in them
-  pub cleared : (wide long n : ℕ) (key : List ℕ) → shift ≤ 32 → buckets_of shift ≤ wide → n ≤ long → n ≤ most_rows
-      → ChainRoom (replicate wide 0) (replicate long 0) shift n
-      × Chained shift key (replicate wide 0) (replicate long 0) 0
-  cleared wide long n key p q l s = (
-    record {
-      low = p;
-      heads_long = simp length-replicate q;
-      next_long = simp length-replicate l;
-      small = s;
-    },
-    none_chained key _ _ (simp length-replicate q)
-        (λ b k. get_or-replicate wide b 0 0 (simp length-replicate at k)),
-  )
-
-  -- room for some of the rows, in columns that are as long as before
-  pub room_for : (heads next heads₀ next₀ : List ℕ) (m n : ℕ) → ChainRoom heads₀ next₀ shift n
-      → length heads ≡ length heads₀ → length next ≡ length next₀ → m ≤ n → ChainRoom heads next shift m
-  room_for heads next heads₀ next₀ m n r p q l = record {
-    low = r.low;
-    heads_long = rw p r.heads_long;
-    next_long = omega (arith, r.next_long);
-    small = omega (arith, r.small);
   }
 
   -- the walk has come to its end: the row kept is the least that has the key

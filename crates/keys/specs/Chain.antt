@@ -1,8 +1,8 @@
 -- Rows chained by the bucket of their key, by which a repeated key is found, for any power of two of buckets. No
 -- contract of an entry point cites it. Assumes nothing.
-use Rattle.std.specs.Prelude.{◌≡◌, List, ℕ, ◌+◌, ◌-◌, ◌*◌, ◌/◌, ◌%◌, ◌^◌, ◌<◌, ◌≤◌, eqb, length}
+use Rattle.std.specs.Prelude.{◌≡◌, List, ℕ, ◌+◌, ◌-◌, ◌*◌, ◌/◌, ◌%◌, ◌^◌, ◌<◌, eqb, length}
 use Rattle.tree.specs.Search.{nearest}
-use Rattle.tree.specs.Table.{most_rows, at}
+use Rattle.tree.specs.Table.{at}
 
 -- a number below 2^32 for the key x: its halves times two odd numbers, whose products lie far apart for neighbours
 unfoldable pub spread_of : ℕ → ℕ
@@ -20,12 +20,9 @@ bucket_of shift x = spread_of x / 2 ^ shift
 unfoldable pub last_in : ℕ → List ℕ → ℕ → ℕ → ℕ
 last_in shift key b i = nearest (λ j. eqb (bucket_of shift (at key j)) b) i
 
--- heads has an entry for each bucket and next one for each of n rows, and the rows are so few that an entry holds one
-pub record ChainRoom (heads next : List ℕ) (shift n : ℕ) : Type 0 where
-  pub low : shift ≤ 32
-  pub heads_long : buckets_of shift ≤ length heads
-  pub next_long : n ≤ length next
-  pub small : n ≤ most_rows
+-- no bucket has a row
+pub record Empty (heads : List ℕ) : Type 0 where
+  pub none : (b : ℕ) → b < length heads → at heads b ≡ 0
 
 -- the rows below i are chained: heads has the last row of each bucket, next the one before a row
 pub record Chained (shift : ℕ) (key heads next : List ℕ) (i : ℕ) : Type 0 where

@@ -1,6 +1,6 @@
 -- The later siblings of the contexts of one role, group by group. How far the contexts of a group reach: `reach-..`.
 -- Contexts whose rows lie apart: `role_apart`. A turn of the function that writes them: `group_start`, `group_some`,
--- `group_asks`, `group_sum`, `group_turn`, `group_done`, `group_length`, `group_index`. Assumes nothing.
+-- `group_asks`, `group_sum`, `group_turn`, `group_done`, `group_length`. Assumes nothing.
 use Prim.Native.Nat.{ℕ, zero, suc, ◌+◌, ◌-◌, ◌<◌, ◌≤◌}
 use mathlib.Core.Path.{◌≡◌, refl, sym, ap, ap₂, ◌∙◌}
 use mathlib.Core.Logic.{⊎_elim}
@@ -15,14 +15,13 @@ use Rattle.tree.specs.Table.{at}
 use Rattle.tree.specs.Search.{gather}
 use Rattle.tree.specs.Tree.{parent}
 use Rattle.tree.specs.Axis.{on_axis}
-use Rattle.tree.specs.Rules.{Shape}
 use Rattle.tree.proofs.TreeLaws.{parent_below}
 use Rattle.tree.proofs.SearchLaws.{gather_zero, gather_skip, gather_ext}
 use Rattle.tree.proofs.SoundLaws.{shape_fits}
 use Rattle.tree.proofs.AxisLaws.{false_of}
-use Rattle.scan.specs.Want.{fits}
+use Rattle.scan.specs.Want.{accepts}
 use Rattle.scan.specs.Range.{rows_in, PastTree}
-use Rattle.scan.specs.OneRole.{any_on, one_role, RoleIn, Wrote}
+use Rattle.scan.specs.OneRole.{any_on, one_role, reached, RoleIn, Wrote}
 use Rattle.scan.proofs.WroteLaws.{wrote_as, wrote_none, wrote_length, wrote_part}
 use Rattle.scan.proofs.ScanLaws.{rows_join, rows_same, part_length}
 use Rattle.scan.proofs.RangeLaws.{contexts_rise, any_miss}
@@ -33,43 +32,44 @@ use Rattle.tree.proofs.SubtreeLaws.{child_within}
 use Rattle.marks.proofs.ChildWalkLaws.{in_parent}
 use Rattle.marks.proofs.SiblingLaws.{later_on}
 use Rattle.marks.proofs.LaterLaws.{later_parent}
-use Rattle.scan.specs.declared.want.Want.{Want}
+use Rattle.scan.specs.declared.trees.Trees.{Trees}
+use Rattle.scan.specs.declared.want.NodeTest.{NodeTest}
 
 -- ── how far contexts reach ──
-module _ {size level : List ℕ} {n : ℕ} (s : Shape size level n) {c e : ℕ} (here : c < n)
-    (h : LaterEnd size level c e) where
+module _ {trees : Trees} {c e : ℕ} (here : c < trees.count) (h : LaterEnd trees c e) where
   -- the end is after the context, and not past the rows in use
-  pub reach_end : (c < e) × (e ≤ n)
-  reach_end = go (parent level c) refl
+  pub reach_end : (c < e) × (e ≤ trees.count)
+  reach_end = go (parent trees.level.now c) refl
     where
-      go : (q : ℕ) → parent level c ≡ q → (c < e) × (e ≤ n)
+      go : (q : ℕ) → parent trees.level.now c ≡ q → (c < e) × (e ≤ trees.count)
       go zero z = (omega (arith, h.root z), omega (arith, h.root z))
       go (suc p) z = (
-        omega (arith, h.child p z, child_within s p c here z),
-        omega (arith, h.child p z, shape_fits s p (later_parent s c p here z)),
+        omega (arith, h.child p z, child_within trees.shape p c here z),
+        omega (arith, h.child p z, shape_fits trees.shape p (later_parent trees.shape c p here z)),
       )
 
   -- a context before the end reaches nothing from the end on
-  pub reach_before : (d w : ℕ) → c ≤ d → d < e → w < n → on_axis 10 level d w ≡ true → w < e
-  reach_before d w a b l t = go (parent level c) refl (parent level d) refl
+  pub reach_before : (d w : ℕ) → c ≤ d → d < e → w < trees.count → on_axis 10 trees.level.now d w ≡ true → w < e
+  reach_before d w a b l t = go (parent trees.level.now c) refl (parent trees.level.now d) refl
     where
       -- the parent of d is that of c, or below it
-      go : (q : ℕ) → parent level c ≡ q → (r : ℕ) → parent level d ≡ r → w < e
-      go q z zero y = absurd (omega (arith, (later_on level d w t).0.some))
+      go : (q : ℕ) → parent trees.level.now c ≡ q → (r : ℕ) → parent trees.level.now d ≡ r → w < e
+      go q z zero y = absurd (omega (arith, (later_on trees.level.now d w t).0.some))
       go zero z (suc r) y =
           let x : d ≡ c = omega (arith, h.root z) in
-          let v = ap (parent level) x in
+          let v = ap (parent trees.level.now) x in
           absurd (omega arith)
       go (suc p) z (suc r) y =
           let x = h.child p z in
-          let o = parent_below level c p z in
-          let i : w ≤ r + at size r = child_within s r w l ((later_on level d w t).0.same ∙ y) in
-          let pn : p < n = later_parent s c p here z in
-          let f : r < d = parent_below level d r y in
-          let u : p ≤ r = omega (arith, in_parent s p d pn (omega arith) (omega arith)) in
+          let o = parent_below trees.level.now c p z in
+          let i : w ≤ r + at trees.size.now r =
+          child_within trees.shape r w l ((later_on trees.level.now d w t).0.same ∙ y) in
+          let pn : p < trees.count = later_parent trees.shape c p here z in
+          let f : r < d = parent_below trees.level.now d r y in
+          let u : p ≤ r = omega (arith, in_parent trees.shape p d pn (omega arith) (omega arith)) in
           ⊎_elim
-          (λ (v : p ≡ r). let k = ap (at size) v in omega arith)
-          (λ (v : p < r). omega (arith, (nests s).within p r pn v (omega arith)))
+          (λ (v : p ≡ r). let k = ap (at trees.size.now) v in omega arith)
+          (λ (v : p < r). omega (arith, (nests trees.shape).within p r pn v (omega arith)))
           (eq-or-lt_of_le u)
 
 -- ── rows that lie apart ──
@@ -115,22 +115,21 @@ role_nobody axis level n test =
 
 -- ── a turn ──
 -- the rows of the contexts before number i are written, and those of the others come after them
-pub record Grouped (level : List ℕ) (n : ℕ) (test : ℕ → Bool) (cs d out : List ℕ) (next i : ℕ) : Type 0 where
+pub record Grouped (trees : Trees) (test : NodeTest) (cs d out : List ℕ) (next i : ℕ) : Type 0 where
   pub few : i ≤ length cs
   pub rows : List ℕ
-  pub split : one_role 10 level n test cs ≡ rows ++ one_role 10 level n test (drop i cs)
+  pub split : reached 10 trees test cs ≡ rows ++ reached 10 trees test (drop i cs)
   pub wrote : Wrote rows d next out
 
-module _ {size level kind name : List ℕ} {n : ℕ} {want : Want} {cs d : List ℕ}
-    (pre : RoleIn 10 size level kind name n cs want d) where
+module _ {trees : Trees} {test : NodeTest} {cs d : List ℕ} (pre : RoleIn 10 trees test cs d) where
   abbrev Rows : List ℕ → List ℕ
-  Rows = one_role 10 level n (fits want kind name)
+  Rows = reached 10 trees test
 
   -- no group is written yet
-  pub group_start : Grouped level n (fits want kind name) cs d d 0 0
+  pub group_start : Grouped trees test cs d d 0 0
   group_start = record { few = omega arith; rows = []; split = refl; wrote = wrote_none d }
 
-  module _ {out : List ℕ} {next i : ℕ} (s : Grouped level n (fits want kind name) cs d out next i) where
+  module _ {out : List ℕ} {next i : ℕ} (s : Grouped trees test cs d out next i) where
     -- there is room for what is written and what is to come
     both_fit : next + length (Rows (drop i cs)) ≤ length d
     both_fit = omega (arith, pre.room, s.wrote.many, simp length-append at (ap length s.split))
@@ -138,19 +137,16 @@ module _ {size level kind name : List ℕ} {n : ℕ} {want : Want} {cs d : List 
     pub group_length : length out ≡ length d
     group_length = wrote_length s.wrote (omega (arith, both_fit, s.wrote.many))
 
-    pub group_index : next ≤ length out
-    group_index = omega (arith, both_fit, group_length)
-
     -- no context is left
-    pub group_done : length cs ≤ i → Wrote (one_role 10 level n (fits want kind name) cs) d next out
+    pub group_done : length cs ≤ i → Wrote (reached 10 trees test cs) d next out
     group_done l =
         let e : i ≡ length cs = omega (arith, s.few) in
         let none : drop i cs ≡ [] = ap (λ (k : ℕ). drop k cs) e ∙ drop-length cs in
         wrote_as (sym (s.split
-        ∙ ap (λ (xs : List ℕ). s.rows ++ xs) (ap Rows none ∙ role_nobody 10 level n (fits want kind name))
+        ∙ ap (λ (xs : List ℕ). s.rows ++ xs) (ap Rows none ∙ role_nobody 10 trees.level.now trees.count (accepts test))
         ∙ append-nil s.rows)) s.wrote
 
-    module _ (m : i < length cs) {e j : ℕ} (h : LaterEnd size level (at cs i) e) (q : PastTree cs i e j) where
+    module _ (m : i < length cs) {e j : ℕ} (h : LaterEnd trees (at cs i) e) (q : PastTree cs i e j) where
       -- the contexts of the group
       abbrev mine : List ℕ
       mine = take (j - i) (drop i cs)
@@ -161,7 +157,7 @@ module _ {size level kind name : List ℕ} {n : ℕ} {want : Want} {cs d : List 
       mine_length : length mine ≡ j - i
       mine_length = part_length cs i j q.to
 
-      here : at cs i < n
+      here : at cs i < trees.count
       here = pre.contexts.inside i m
 
       -- the number moves on
@@ -169,7 +165,7 @@ module _ {size level kind name : List ℕ} {n : ℕ} {want : Want} {cs d : List 
       group_less = ⊎_elim
           (λ (x : i ≡ j).
           let y = ap (at cs) x in
-          absurd (omega (arith, q.after (omega arith), (reach_end pre.shape here h).0)))
+          absurd (omega (arith, q.after (omega arith), (reach_end here h).0)))
           (λ (x : i < j). x) (eq-or-lt_of_le q.from)
 
       pub group_some : 0 < length mine
@@ -182,38 +178,38 @@ module _ {size level kind name : List ℕ} {n : ℕ} {want : Want} {cs d : List 
           sym (take-append-drop (j - i) (drop i cs))
           ∙ ap (λ (xs : List ℕ). mine ++ xs) (drop-drop (j - i) i cs ∙ ap (λ (k : ℕ). drop k cs) f)
 
-      low : (w : ℕ) → e ≤ w → w < n → any_on 10 level mine w ≡ false
-      low w x y = any_miss 10 level mine w (λ k l.
+      low : (w : ℕ) → e ≤ w → w < trees.count → any_on 10 trees.level.now mine w ≡ false
+      low w x y = any_miss 10 trees.level.now mine w (λ k l.
           let b : k < j - i = omega (arith, mine_length) in
-          ap (λ (z : ℕ). on_axis 10 level z w) (mine_at k b) ∙ false_of (on_axis 10 level (at cs (i + k)) w) (λ t.
-          let u = reach_before pre.shape here h (at cs (i + k)) w
+          ap (λ (z : ℕ). on_axis 10 trees.level.now z w) (mine_at k b)
+          ∙ false_of (on_axis 10 trees.level.now (at cs (i + k)) w) (λ t.
+          let u = reach_before here h (at cs (i + k)) w
           (contexts_rise pre.contexts i (i + k) (omega arith) (omega (arith, q.to)))
           (q.before (i + k) (omega arith) (omega arith)) y t in
           omega arith))
 
-      high : (w : ℕ) → w < e → any_on 10 level (drop j cs) w ≡ false
-      high w x = any_miss 10 level (drop j cs) w (λ k l.
+      high : (w : ℕ) → w < e → any_on 10 trees.level.now (drop j cs) w ≡ false
+      high w x = any_miss 10 trees.level.now (drop j cs) w (λ k l.
           let b : j + k < length cs = omega (arith, length-drop j cs) in
-          ap (λ (z : ℕ). on_axis 10 level z w) (get_or-drop j cs k 0)
-          ∙ false_of (on_axis 10 level (at cs (j + k)) w) (λ t.
+          ap (λ (z : ℕ). on_axis 10 trees.level.now z w) (get_or-drop j cs k 0)
+          ∙ false_of (on_axis 10 trees.level.now (at cs (j + k)) w) (λ t.
           omega (
             arith,
-            (later_on level (at cs (j + k)) w t).1,
+            (later_on trees.level.now (at cs (j + k)) w t).1,
             q.after (omega arith),
             contexts_rise pre.contexts j (j + k) (omega arith) b,
           )))
 
       apart : Rows (drop i cs) ≡ Rows mine ++ Rows (drop j cs)
       apart = ap Rows cut
-          ∙ role_apart 10 level n (fits want kind name) mine (drop j cs) e (reach_end pre.shape here h).1 low high
+          ∙ role_apart 10 trees.level.now trees.count (accepts test) mine (drop j cs) e (reach_end here h).1 low high
 
       -- there is room for the group's rows
       fit : next + length (Rows mine) ≤ length d
       fit = omega (arith, both_fit, simp length-append at (ap length apart))
 
-      pub group_asks : RoleIn 10 size level kind name n mine want (mid_of next (length out - next) out)
+      pub group_asks : RoleIn 10 trees test mine (mid_of next (length out - next) out)
       group_asks = record {
-        shape = pre.shape;
         contexts = record {
           rising = λ x y l k.
               let b : y < j - i = omega (arith, mine_length) in
@@ -237,7 +233,7 @@ module _ {size level kind name : List ℕ} {n : ℕ} {want : Want} {cs d : List 
         pub group_sum : next + k ≤ length d
         group_sum = omega (arith, t.many, fit)
 
-        pub group_turn : Grouped level n (fits want kind name) cs d (put_mid next (length out - next) out part)
+        pub group_turn : Grouped trees test cs d (put_mid next (length out - next) out part)
             (next + k) j
         group_turn = record {
           few = q.to;

@@ -6,63 +6,81 @@ use Prim.Native.Nat.{ℕ, ◌+◌, ◌-◌, ◌≤◌}
 use native.Mathlib.Omega.{arith}
 use lib.ListN.{length, drop, length-take, length-drop, drop_of_length-le}
 use Rattle.tree.specs.Table.{at}
-use Rattle.tree.specs.Rules.{Shape}
 use Rattle.tree.specs.Pairs.{pairs_of, with_role}
 use Rattle.tree.specs.Kept.{remaining, kept_count}
 use Rattle.tree.specs.StepRules.{PairsFit}
 use Rattle.tree.proofs.KeptLaws.{kept_split}
 use Rattle.kept_rows.specs.KeptOf.{kept_of, KeptIn}
+use Rattle.links.specs.declared.walk.Walk.{Walk}
+use Rattle.lines.specs.CallWalk.{IsWalk}
+use Rattle.runs.specs.declared.call.Call.{Call}
 use Rattle.runs.specs.Runs.{pairs_from, run_rows, RunEnd}
 use Rattle.runs.proofs.RunLaws.{pairs_from_run, rest_above, run_contexts}
+use Rattle.runs.proofs.StepRunLaws.{pairs_fit}
 use Rattle.kept_rows.proofs.KeptOfLaws.{kept_role, kept_most}
 
--- the pairs before place i are counted
-pub record Keeping (axis : ℕ) (level role row : List ℕ) (kept i : ℕ) : Type 0 where
-  pub within : i ≤ length role
-  pub small : kept ≤ i
-  sum : kept + kept_count axis level (pairs_from role row i) ≡ kept_count axis level (pairs_of role row)
+-- how many pairs are kept of those from place i on, and of all
+abbrev kept_from : Call → ℕ → ℕ
+kept_from call i = kept_count call.ask.axis call.trees.level.now (pairs_from call.role.now call.row.now i)
 
-module _ (axis : ℕ) (size level : List ℕ) (n : ℕ) (role row : List ℕ) (s : Shape size level n)
-    (p : PairsFit role row n) where
-  pub keeping_none : Keeping axis level role row 0 0
+abbrev pub kept_all : Call → ℕ
+kept_all call = kept_count call.ask.axis call.trees.level.now (pairs_of call.role.now call.row.now)
+
+-- how many contexts are kept of those from place i on, and before place j
+abbrev pub kept_in : Call → ℕ → ℕ → ℕ
+kept_in call i j = kept_of call.ask.axis call.trees.level.now (run_rows call.row.now i j)
+
+-- the pairs before place i are counted
+pub record Keeping (call : Call) (kept i : ℕ) : Type 0 where
+  pub within : i ≤ length call.role.now
+  pub small : kept ≤ i
+  sum : kept + kept_from call i ≡ kept_all call
+
+module _ (call : Call) where
+  fit : PairsFit call.role.now call.row.now call.trees.count
+  fit = pairs_fit call.ready
+
+  pub keeping_none : Keeping call 0 0
   keeping_none = record { within = omega arith; small = omega arith; sum = omega arith }
 
-  part_length : (i j : ℕ) → RunEnd role i j → length (run_rows row i j) ≡ j - i
-  part_length i j e = simp (length-take, length-drop) (omega (arith, e.within, p.even))
-
-  pub keeping_asks : (i j : ℕ) → RunEnd role i j → KeptIn size level n (run_rows row i j)
-  keeping_asks i j e = record {
-    shape = s;
-    contexts = run_contexts role row n i j p e;
-    few = omega (arith, part_length i j e, e.within, p.few);
-  }
-
-  kept_run : (i j : ℕ) → RunEnd role i j
-      → kept_count axis level (pairs_from role row i)
-      ≡ kept_of axis level (run_rows row i j) + kept_count axis level (pairs_from role row j)
-  kept_run i j e =
-      ap (kept_count axis level) (pairs_from_run role row n i j p e)
-      ∙ kept_split axis level (with_role (at role i) (run_rows row i j)) (pairs_from role row j)
-      (rest_above role row n i j p e)
-      ∙ ap (λ (k : ℕ). k + kept_count axis level (pairs_from role row j))
-      (kept_role axis level (at role i) (run_rows row i j))
-
-  -- a run keeps at most its pairs
-  pub run_most : (i j : ℕ) → RunEnd role i j → kept_of axis level (run_rows row i j) ≤ j - i
-  run_most i j e = omega (arith, kept_most axis level (run_rows row i j), part_length i j e)
-
-  pub keeping_more : {kept i r j : ℕ} → Keeping axis level role row kept i → RunEnd role i j
-      → r ≡ kept_of axis level (run_rows row i j) → Keeping axis level role row (kept + r) j
-  keeping_more {kept} {i} {r} {j} k e q = record {
-    within = e.within;
-    small = omega (arith, k.small, run_most i j e, e.after);
-    sum = omega (arith, k.sum, kept_run i j e);
-  }
-
-  pub keeping_done : {kept i : ℕ} → Keeping axis level role row kept i → length role ≤ i
-      → kept ≡ kept_count axis level (pairs_of role row)
+  pub keeping_done : {kept i : ℕ} → Keeping call kept i → length call.role.now ≤ i → kept ≡ kept_all call
   unfolding kept_count remaining pairs_of
   keeping_done {kept} {i} k l =
-      let z : kept_count axis level (pairs_from role row i) ≡ 0 =
-      ap (λ (rs : List ℕ). kept_count axis level (pairs_of rs (drop i row))) (drop_of_length-le role l) in
+      let z : kept_from call i ≡ 0 =
+      ap (λ (rs : List ℕ). kept_count call.ask.axis call.trees.level.now (pairs_of rs (drop i call.row.now)))
+      (drop_of_length-le call.role.now l) in
       omega (arith, k.sum)
+
+  module _ {walk : Walk} (w : IsWalk call walk) {i j : ℕ} (e : RunEnd call.role.now i j) where
+    part_length : length (run_rows call.row.now i j) ≡ j - i
+    part_length = simp (length-take, length-drop) (omega (arith, e.within, fit.even))
+
+    pub keeping_asks : KeptIn walk.trees (run_rows call.row.now i j)
+    keeping_asks = record {
+      contexts = rw w.trees (run_contexts call.role.now call.row.now call.trees.count i j fit e);
+      few = omega (arith, part_length, e.within, fit.few);
+    }
+
+    kept_run : kept_from call i ≡ kept_in call i j + kept_from call j
+    kept_run =
+        let axis = call.ask.axis in let level = call.trees.level.now in
+        let role = call.role.now in let row = call.row.now in
+        ap (kept_count axis level) (pairs_from_run role row call.trees.count i j fit e)
+        ∙ kept_split axis level (with_role (at role i) (run_rows row i j)) (pairs_from role row j)
+        (rest_above role row call.trees.count i j fit e)
+        ∙ ap (λ (k : ℕ). k + kept_from call j) (kept_role axis level (at role i) (run_rows row i j))
+
+    -- a run keeps at most its pairs
+    kept_most_in : kept_in call i j ≤ j - i
+    kept_most_in = omega (arith, kept_most call.ask.axis call.trees.level.now (run_rows call.row.now i j), part_length)
+
+    pub run_most : kept_of walk.axis walk.trees.level.now (run_rows call.row.now i j) ≤ j - i
+    run_most = rw (w.axis, w.trees) kept_most_in
+
+    pub keeping_more : {kept r : ℕ} → Keeping call kept i
+        → r ≡ kept_of walk.axis walk.trees.level.now (run_rows call.row.now i j) → Keeping call (kept + r) j
+    keeping_more {kept} {r} k h = let q : r ≡ kept_in call i j = rw (w.axis, w.trees) at h in record {
+      within = e.within;
+      small = omega (arith, k.small, kept_most_in, e.after);
+      sum = omega (arith, k.sum, kept_run);
+    }

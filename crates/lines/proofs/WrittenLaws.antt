@@ -6,21 +6,21 @@ use Prim.Native.Nat.{ℕ, ◌+◌, ◌-◌, ◌*◌, ◌≤◌}
 use native.Mathlib.Omega.{arith}
 use lib.ListN.{length, replicate, length-append, length-drop, length-take}
 use borrow.Rule.Slice.PartMut.{mid_of, put_mid}
-use Rattle.tree.specs.Table.{Table, at}
-use Rattle.tree.specs.Pairs.{Pair, pairs_of, with_role, roles_of, rows_of}
-use Rattle.tree.specs.declared.Ask.{Ask}
-use Rattle.tree.specs.Step.{step_list}
+use Rattle.tree.specs.Table.{at}
+use Rattle.tree.specs.Pairs.{Pair, with_role, roles_of, rows_of}
 use Rattle.tree.proofs.PairColumns.{length_roles, length_rows, roles_append, rows_append}
-use Rattle.scan.specs.Want.{want_of}
 use Rattle.scan.specs.OneRole.{Wrote}
 use Rattle.marks.specs.RowSet.{Blank}
 use Rattle.axis.specs.Role.{RoleAsk, RoleDone}
-use Rattle.runs.specs.Runs.{pairs_from, run_rows, RunEnd}
-use Rattle.runs.specs.StepReady.{StepReady, HasRoom, Lists}
+use Rattle.runs.specs.Runs.{RunEnd}
+use Rattle.runs.specs.StepReady.{HasRoom, Lists}
+use Rattle.runs.specs.declared.call.Call.{Call}
+use Rattle.runs.specs.Lines.{step_lines}
+use Rattle.links.specs.declared.walk.Walk.{Walk}
+use Rattle.lines.specs.CallWalk.{IsWalk}
 use Rattle.scan.proofs.WroteLaws.{wrote_as, wrote_none, wrote_length, wrote_part}
-use Rattle.runs.proofs.RunLaws.{role_rows}
 use Rattle.runs.proofs.StepRunLaws.{length_role, step_at, step_end, row_most}
-use Rattle.lines.proofs.CountedLaws.{run_asks}
+use Rattle.lines.proofs.CountedLaws.{lines_from, contexts_in, rows_found, run_asks, run_wrote}
 
 -- ── the two columns of one role's pairs ──
 pub rows_role : (r : ℕ) (cs : List ℕ) → rows_of (with_role r cs) ≡ cs
@@ -34,19 +34,17 @@ roles_role r [] = refl
 roles_role r (c ∷ cs) = ap (λ (l : List ℕ). r ∷ l) (roles_role r cs)
 
 -- ── the lines before place i stand in the result columns ──
-pub record Written (t : Table) (a : Ask) (role row oldRole oldRow words outRole outRow : List ℕ) (m i : ℕ)
-    : Type 0 where
-  pub within : i ≤ length role
+pub record Written (call : Call) (oldRole oldRow words outRole outRow : List ℕ) (m i : ℕ) : Type 0 where
+  pub within : i ≤ length call.role.now
   pub blank : Blank words
   pub small : m ≤ i * 4096
   done : List Pair
-  rest : step_list t a (pairs_of role row) ≡ done ++ step_list t a (pairs_from role row i)
+  rest : step_lines call ≡ done ++ lines_from call i
   roles : Wrote (roles_of done) oldRole m outRole
   rows : Wrote (rows_of done) oldRow m outRow
 
-module _ (t : Table) (a : Ask) (up role row oldRole oldRow : List ℕ) (s : StepReady t a up role row)
-    (f : HasRoom t a role row oldRole oldRow) where
-  pub written_none : (words : List ℕ) → Blank words → Written t a role row oldRole oldRow words oldRole oldRow 0 0
+module _ (call : Call) {oldRole oldRow : List ℕ} (f : HasRoom (step_lines call) oldRole oldRow) where
+  pub written_none : (words : List ℕ) → Blank words → Written call oldRole oldRow words oldRole oldRow 0 0
   unfolding roles_of rows_of
   written_none words b = record {
     within = omega arith;
@@ -59,15 +57,15 @@ module _ (t : Table) (a : Ask) (up role row oldRole oldRow : List ℕ) (s : Step
   }
 
   module _ {words outRole outRow : List ℕ} {m i : ℕ}
-      (w : Written t a role row oldRole oldRow words outRole outRow m i) where
+      (w : Written call oldRole oldRow words outRole outRow m i) where
     many : m ≡ length w.done
     many = w.rows.many ∙ length_rows w.done
 
-    all : length (step_list t a (pairs_of role row)) ≡ m + length (step_list t a (pairs_from role row i))
+    all : length (step_lines call) ≡ m + length (lines_from call i)
     all =
         ap length w.rest
         ∙ length-append w.done _
-        ∙ ap (λ (k : ℕ). k + length (step_list t a (pairs_from role row i))) (sym many)
+        ∙ ap (λ (k : ℕ). k + length (lines_from call i)) (sym many)
 
     -- the columns keep their lengths
     pub written_roles : length outRole ≡ length oldRole
@@ -76,16 +74,16 @@ module _ (t : Table) (a : Ask) (up role row oldRole oldRow : List ℕ) (s : Step
     pub written_rows : length outRow ≡ length oldRow
     written_rows = wrote_length w.rows (let e = length_rows w.done in omega (arith, all, many, f.rows))
 
-    module _ {j : ℕ} (e : RunEnd role i j) where
+    module _ {walk : Walk} (k : IsWalk call walk) {j : ℕ} (e : RunEnd call.role.now i j) where
       -- the run's rows
       abbrev found : List ℕ
-      found = role_rows t a (run_rows row i j)
+      found = rows_found call i j
 
-      run_all : length (step_list t a (pairs_from role row i))
-          ≡ length found + length (step_list t a (pairs_from role row j))
+      run_all : length (lines_from call i)
+          ≡ length found + length (lines_from call j)
       run_all =
-          ap length (step_at t a up role row s i j e) ∙ length-append (with_role (at role i) found) _
-          ∙ ap (λ (k : ℕ). k + length (step_list t a (pairs_from role row j))) (length_role (at role i) found)
+          ap length (step_at call.ready i j e) ∙ length-append (with_role (at call.role.now i) found) _
+          ∙ ap (λ (k : ℕ). k + length (lines_from call j)) (length_role (at call.role.now i) found)
 
       pub written_start : m ≤ length outRow
       written_start = omega (arith, all, run_all, written_rows, f.rows)
@@ -93,44 +91,46 @@ module _ (t : Table) (a : Ask) (up role row oldRole oldRow : List ℕ) (s : Step
       pub written_starts : m ≤ length outRole
       written_starts = omega (arith, all, run_all, written_roles, f.roles)
 
-      pub written_asks : RoleAsk a.axis t.size t.level t.kind t.name t.count up
-          (run_rows row i j) (want_of a) words (mid_of m (length outRow - m) outRow)
+      pub written_asks : RoleAsk walk (contexts_in call i j) words (mid_of m (length outRow - m) outRow)
       written_asks =
-          run_asks t a up role row s i j words _ e w.blank
+          run_asks k e words _ w.blank
           (simp (length-take, length-drop) (omega (arith, all, run_all, written_rows, f.rows)))
 
       module _ {words' rows' : List ℕ} {r : ℕ}
-          (d : RoleDone a.axis t.level t.kind t.name t.count
-          (run_rows row i j) (want_of a) words' (mid_of m (length outRow - m) outRow) r rows') where
+          (d : RoleDone walk (contexts_in call i j) words' (mid_of m (length outRow - m) outRow) r rows') where
+        wrote : Wrote found (mid_of m (length outRow - m) outRow) r rows'
+        wrote = run_wrote k e d
+
         pub written_room : r ≤ length (mid_of m (length outRole - m) outRole)
         written_room =
-            simp (length-take, length-drop) (omega (arith, d.wrote.many, all, run_all, written_roles, f.roles))
+            simp (length-take, length-drop) (omega (arith, wrote.many, all, run_all, written_roles, f.roles))
 
         pub written_step : r ≤ 4096
-        written_step = omega (arith, d.wrote.many, row_most t a up role row s i j)
+        written_step = omega (arith, wrote.many, row_most call.ready i j)
 
         pub written_more : {roles' : List ℕ}
-            → Wrote (replicate r (at role i)) (mid_of m (length outRole - m) outRole) r roles'
-            → Written t a role row oldRole oldRow words' (put_mid m (length outRole - m) outRole roles')
+            → Wrote (replicate r (at call.role.now i)) (mid_of m (length outRole - m) outRole) r roles'
+            → Written call oldRole oldRow words' (put_mid m (length outRole - m) outRole roles')
             (put_mid m (length outRow - m) outRow rows') (m + r) j
         written_more g = record {
           within = e.within;
           blank = d.blank;
           small = omega (arith, w.small, written_step, e.after);
-          done = w.done ++ with_role (at role i) found;
-          rest = w.rest ∙ ap (λ (l : List Pair). w.done ++ l) (step_at t a up role row s i j e)
-              ∙ sym (append_assoc w.done (with_role (at role i) found) (step_list t a (pairs_from role row j)));
+          done = w.done ++ with_role (at call.role.now i) found;
+          rest = w.rest ∙ ap (λ (l : List Pair). w.done ++ l) (step_at call.ready i j e)
+              ∙ sym (append_assoc w.done (with_role (at call.role.now i) found) (lines_from call j));
           roles = wrote_as (sym (roles_append w.done _ ∙ ap (λ (l : List ℕ). roles_of w.done ++ l)
-              (roles_role (at role i) found ∙ ap (λ (k : ℕ). replicate k (at role i)) (sym d.wrote.many))))
+              (roles_role (at call.role.now i) found
+              ∙ ap (λ (k : ℕ). replicate k (at call.role.now i)) (sym wrote.many))))
               (wrote_part w.roles g);
           rows = wrote_as (sym (rows_append w.done _ ∙ ap (λ (l : List ℕ). rows_of w.done ++ l)
-              (rows_role (at role i) found))) (wrote_part w.rows d.wrote);
+              (rows_role (at call.role.now i) found))) (wrote_part w.rows wrote);
         }
 
-    pub written_done : length role ≤ i → Lists t a role row oldRole oldRow m outRole outRow
+    pub written_done : length call.role.now ≤ i → Lists (step_lines call) oldRole oldRow m outRole outRow
     written_done l =
-        let e : step_list t a (pairs_of role row) ≡ w.done =
-        w.rest ∙ ap (λ (l : List Pair). w.done ++ l) (step_end t a up role row s i l) ∙ append-nil w.done in
+        let e : step_lines call ≡ w.done =
+        w.rest ∙ ap (λ (l : List Pair). w.done ++ l) (step_end call.ready i l) ∙ append-nil w.done in
         record {
           roles = wrote_as (ap roles_of (sym e)) w.roles;
           rows = wrote_as (ap rows_of (sym e)) w.rows;

@@ -2,208 +2,118 @@
 #![tactic(auto)]
 
 ghost use Rattle.std.specs.Prelude.{◌≡◌, length};
-ghost use Rattle.tree.specs.Table.{table_of};
 ghost use Rattle.tree.specs.Pairs.{pairs_of};
 ghost use Rattle.tree.specs.Kept.{kept_count};
-ghost use Rattle.tree.specs.Step.{step_list};
 ghost use Rattle.lone.specs.Lone.{upward as upwardOf};
 ghost use Rattle.axis.specs.Role.{RoleAsk, RoleDone};
-ghost use Rattle.runs.specs.StepReady.{StepReady, HasRoom, Lists};
+ghost use Rattle.runs.specs.StepReady.{HasRoom, Lists};
+ghost use Rattle.runs.specs.Lines.{step_lines};
+ghost use Rattle.lines.specs.CallWalk.{IsWalk};
 
 use axis::one_role;
-use basics::both;
 use direct::earlier;
 use kept::kept_of;
 use later::later_siblings;
+use links::walk::Walk;
 use lone::{is_upward, lone_rows};
+use marks::row_set::RowSet;
+use runs::call::Call;
 use runs::{fill, run_end};
-use scan::want::{Want, want_of};
-use tree::Ask;
+use scan::want::{NodeTest, want_of};
+use tree::Tally;
 
-// The rows of one role, for the count: the way up of a lone context, the siblings by functions of their own, and all
-// else by `one_role`. The lone context is chosen first, so that it does not pay for what `one_role` needs; whether its
-// way is `upward` is the same for all roles.
+// What all roles of the call have in common.
+fn walk_of<'a>(call: &Call<'a>) -> Walk<'a>
+    ensures { IsWalk call.now result }
+{
+    Walk {
+        trees: call.trees,
+        up: call.up,
+        test: NodeTest {
+            want: want_of(call.ask),
+            kind: call.kind,
+            name: call.name,
+        },
+        axis: call.ask.axis,
+    }
+}
+
+// The rows of one role: the way up of a lone context, the siblings by functions of their own, and all else by
+// `one_role`. The lone context is chosen first, so that it does not pay for what `one_role` needs; whether its way is
+// `upward` is the same for all roles.
 //
-// `written_role` has the same text, for the other loop. Each is compiled into its loop. One function for both loops
-// would stand between the loop and what writes the rows: every role would pay for a second call and for the registers
-// of the siblings, and 4,096 roles with one pair each would take 1.3 to 2.2 times as long.
-fn counted_role(
-    size: &[usize],
-    level: &[usize],
-    kind: &[usize],
-    name: &[usize],
-    count: usize,
-    up: &[usize; 4096],
+// It is compiled into each of the two loops. Between a loop and what writes the rows, every role would pay for a second
+// call and for the registers of the siblings.
+#[inline(always)]
+fn role_rows(
+    walk: &Walk<'_>,
     rows: &[usize],
-    axis: usize,
-    want: Want,
     upward: bool,
-    words: &mut [u64; 64],
+    set: &mut RowSet,
     out: &mut [usize],
 ) -> usize
-    requires upward_value { upward ≡ upwardOf axis want }
-    requires role_ask { RoleAsk axis size.now level.now kind.now name.now count up.now
-        rows.now want words.old out.old }
-    ensures { RoleDone axis level.now kind.now name.now count
-        rows.now want words.new
-        out.old result out.new }
+    requires upward_value { upward ≡ upwardOf walk.now.axis walk.now.test.want }
+    requires role_ask { RoleAsk walk.now rows.now set.old out.old }
+    ensures { RoleDone walk.now rows.now set.new out.old result out.new }
 {
-    if both(rows.len() == 1, upward) {
-        return lone_rows(size, level, kind, name, count, up, rows, axis, want, out);
+    if rows.len() == 1 && upward {
+        return lone_rows(&walk.trees, walk.up, &walk.test, rows, walk.axis, out);
     }
-    if axis == 10 {
-        return later_siblings(size, level, kind, name, count, up, rows, want, words, out);
+    if walk.axis == 10 {
+        return later_siblings(walk, rows, set, out);
     }
-    if earlier::is_rising(count, up, rows, axis) {
-        return earlier::rising_rows(size, level, kind, name, count, up, rows, want, out);
+    if earlier::is_rising(&walk.trees, walk.up, rows, walk.axis) {
+        return earlier::rising_rows(&walk.trees, walk.up, &walk.test, rows, out);
     }
-    one_role(
-        size, level, kind, name, count, up, rows, axis, want, words, out,
-    )
+    one_role(walk, rows, set, out)
 }
 
 // How many lines the step has: each role's rows are written to a scratch column.
-pub fn count_all(
-    key: &[usize],
-    size: &[usize],
-    level: &[usize],
-    kind: &[usize],
-    name: &[usize],
-    count: usize,
-    up: &[usize; 4096],
-    role: &[usize],
-    row: &[usize],
-    ask: Ask,
-) -> usize
-    requires { StepReady (table_of key.now size.now level.now kind.now name.now count)
-        ask up.now role.now row.now }
-    ensures { result ≡ length (step_list (table_of key.now size.now level.now
-        kind.now name.now count)
-        ask (pairs_of role.now row.now)) }
+pub fn count_all(call: &Call<'_>) -> usize
+    ensures { result ≡ length (step_lines call.now) }
 {
-    let want = want_of(ask);
-    let upward = is_upward(ask.axis, want);
-    let mut words = [0u64; 64];
+    let walk = walk_of(call);
+    let upward = is_upward(walk.axis, walk.test.want);
+    let role = call.role;
+    let row = call.row;
+    let mut set = RowSet::new();
     let mut scratch = [0usize; 4096];
     let mut total = 0;
     let mut i = 0;
+    // From role to role: the next one begins where the run ends.
     while i < role.len() {
         let j = run_end(role, i);
-        let n = counted_role(
-            size,
-            level,
-            kind,
-            name,
-            count,
-            up,
-            &row[i..j],
-            ask.axis,
-            want,
-            upward,
-            &mut words,
-            &mut scratch,
-        );
-        total = total + n;
+        total += role_rows(&walk, &row[i..j], upward, &mut set, &mut scratch);
         i = j;
     }
     total
 }
 
-// How many lines a step has, and how many distinct pairs remain when redundant ones are dropped.
-#[derive(Clone, Copy)]
-pub struct Tally {
-    pub listed: usize,
-    pub kept: usize,
-}
-
-// The rows of one role, for the results, chosen as in `counted_role`.
-fn written_role(
-    size: &[usize],
-    level: &[usize],
-    kind: &[usize],
-    name: &[usize],
-    count: usize,
-    up: &[usize; 4096],
-    rows: &[usize],
-    axis: usize,
-    want: Want,
-    upward: bool,
-    words: &mut [u64; 64],
-    out: &mut [usize],
-) -> usize
-    requires upward_value { upward ≡ upwardOf axis want }
-    requires role_ask { RoleAsk axis size.now level.now kind.now name.now count up.now
-        rows.now want words.old out.old }
-    ensures { RoleDone axis level.now kind.now name.now count
-        rows.now want words.new
-        out.old result out.new }
-{
-    if both(rows.len() == 1, upward) {
-        return lone_rows(size, level, kind, name, count, up, rows, axis, want, out);
-    }
-    if axis == 10 {
-        return later_siblings(size, level, kind, name, count, up, rows, want, words, out);
-    }
-    if earlier::is_rising(count, up, rows, axis) {
-        return earlier::rising_rows(size, level, kind, name, count, up, rows, want, out);
-    }
-    one_role(
-        size, level, kind, name, count, up, rows, axis, want, words, out,
-    )
-}
-
 // Writes the lines of the step to the front of the result columns; answers how many, and the kept count.
-pub fn write_all(
-    key: &[usize],
-    size: &[usize],
-    level: &[usize],
-    kind: &[usize],
-    name: &[usize],
-    count: usize,
-    up: &[usize; 4096],
-    role: &[usize],
-    row: &[usize],
-    ask: Ask,
-    out_role: &mut [usize],
-    out_row: &mut [usize],
-) -> Tally
-    requires step_ready { StepReady (table_of key.now size.now level.now kind.now name.now count)
-        ask up.now role.now row.now }
-    requires has_room { HasRoom (table_of key.now size.now level.now kind.now name.now count)
-        ask role.now row.now out_role.old out_row.old }
-    ensures lists { Lists (table_of key.now size.now level.now
-        kind.now name.now count)
-        ask role.now row.now
-        out_role.old out_row.old result.listed
+pub fn write_all(call: &Call<'_>, out_role: &mut [usize], out_row: &mut [usize]) -> Tally
+    requires { HasRoom (step_lines call.now) out_role.old out_row.old }
+    ensures lists { Lists (step_lines call.now) out_role.old out_row.old result.listed
         out_role.new out_row.new }
-    ensures kept_value { result.kept ≡ kept_count ask.axis level.now
-        (pairs_of role.now row.now) }
+    ensures kept_value { result.kept ≡ kept_count call.now.ask.axis call.now.trees.level.now
+        (pairs_of call.now.role.now call.now.row.now) }
 {
-    let want = want_of(ask);
-    let upward = is_upward(ask.axis, want);
-    let mut words = [0u64; 64];
+    let walk = walk_of(call);
+    let upward = is_upward(walk.axis, walk.test.want);
+    let role = call.role;
+    let row = call.row;
+    let mut set = RowSet::new();
     let mut kept = 0;
     let mut m = 0;
     let mut i = 0;
+    // From role to role: the next one begins where the run ends.
     while i < role.len() {
         let j = run_end(role, i);
-        kept = kept + kept_of(size, level, count, up, &row[i..j], ask.axis);
-        let n = written_role(
-            size,
-            level,
-            kind,
-            name,
-            count,
-            up,
-            &row[i..j],
-            ask.axis,
-            want,
-            upward,
-            &mut words,
-            &mut out_row[m..],
-        );
+        let rows = &row[i..j];
+        kept += kept_of(&walk.trees, walk.up, rows, walk.axis);
+        let part = &mut out_row[m..];
+        let n = role_rows(&walk, rows, upward, &mut set, part);
         fill(&mut out_role[m..], n, role[i]);
-        m = m + n;
+        m += n;
         i = j;
     }
     Tally { listed: m, kept }

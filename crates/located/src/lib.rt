@@ -17,6 +17,7 @@ fn past_eights(level: &[usize], row: usize, up: usize) -> usize
     ensures { (result ≤ row) × ((j : ℕ) → result ≤ j → j < row → at level.now j ≡ up → ⊥) }
 {
     let mut i = row;
+    // Not `rchunks`: the place where the last eight began is the answer, and would be counted anew.
     while 8 <= i {
         if one_of(level, i - 8, i, up) {
             return i;
@@ -32,6 +33,7 @@ pub fn parent_of(level: &[usize], row: usize, up: usize) -> usize
     ensures { parent level.now row ≡ result + 1 }
 {
     let mut i = past_eights(level, row, up) - 1;
+    // Not `for .. rev()`: there is such a row, and the end of a range would be tested for nothing.
     while level[i] != up {
         i -= 1;
     }

@@ -1,13 +1,12 @@
 -- The rows on the path of a link, ascending: none (`path_none`), those of a row are those of its parent and the row
 -- itself (`path_snoc`), and how many they are (`path_above_count`, `path_own_count`). The loop that writes them from
--- the last one down: `path_start`, `path_next`, `path_done`, and what a turn asks for: `path_some`, `path_length`.
--- Assumes nothing.
+-- the last one down: `path_next`, `path_done`, and that a link is left where a row is, `path_some`. Assumes nothing.
 use Prim.Native.Nat.{ℕ, zero, suc, ◌+◌, ◌<◌, ◌≤◌}
 use mathlib.Core.Path.{◌≡◌, refl, sym, ap, ◌∙◌}
 use mathlib.Core.Bool.{false, false≢true}
-use mathlib.Core.List.{List, [], ◌∷◌, ◌++◌, append-nil}
+use mathlib.Core.List.{List, [], ◌∷◌, ◌++◌}
 use native.Mathlib.Omega.{arith}
-use lib.ListN.{length, get_or, take, drop, set, length-append, length-take, length-drop, take-append-drop}
+use lib.ListN.{length, get_or, take, drop, set, length-append}
 use lib.Seq.{take-suc, set_at, append_snoc, length-take-le}
 use Rattle.tree.specs.Search.{gather}
 use Rattle.tree.specs.Table.{at}
@@ -17,6 +16,7 @@ use Rattle.tree.specs.Outcome.{overwritten}
 use Rattle.tree.proofs.SearchLaws.{gather_zero, gather_yes, gather_skip, gather_ext}
 use Rattle.tree.proofs.AxisLaws.{same_test}
 use Rattle.tree.proofs.LevelLaws.{ancestors_count}
+use Rattle.scan.specs.declared.trees.Trees.{Trees}
 use Rattle.scan.specs.OneRole.{Wrote}
 use Rattle.lone.specs.Lone.{path_rows, PathIn}
 use Rattle.ways.specs.Above.{on_path}
@@ -66,46 +66,29 @@ module _ {size level : List ℕ} {n : ℕ} (s : Shape size level n) where
 
 -- ── the loop ──
 -- the k rows of the path from a are to be the first k results, and the rows below them are written
-pub record PathLeft (level : List ℕ) (n link : ℕ) (old out : List ℕ) (a k : ℕ) : Type 0 where
+pub record PathLeft (trees : Trees) (link : ℕ) (old out : List ℕ) (a k : ℕ) : Type 0 where
   pub below : List ℕ
-  pub low : a ≤ n
-  pub many : length (path_rows level n a) ≡ k
-  pub split : path_rows level n link ≡ path_rows level n a ++ below
-  pub holds : out ≡ take k old ++ (below ++ drop (length (path_rows level n link)) old)
+  pub low : a ≤ trees.count
+  pub many : length (path_rows trees.level.now trees.count a) ≡ k
+  pub split : path_rows trees.level.now trees.count link ≡ path_rows trees.level.now trees.count a ++ below
+  pub holds : out ≡ take k old ++ (below ++ drop (length (path_rows trees.level.now trees.count link)) old)
 
 -- a list of no elements
 empty : (xs : List ℕ) → length xs ≡ 0 → xs ≡ []
 empty [] e = refl
 empty (x ∷ xs) e = absurd (omega arith)
 
-module _ {size level : List ℕ} {n : ℕ} {up : List ℕ} {link m : ℕ} {old : List ℕ}
-    (h : PathIn size level n up link m old) where
-  pub path_start : PathLeft level n link old old link m
-  path_start = record {
-    below = [];
-    low = h.low;
-    many = h.many;
-    split = sym (append-nil (path_rows level n link));
-    holds = sym (take-append-drop m old) ∙ ap (λ (j : ℕ). take m old ++ drop j old) (sym h.many);
-  }
-
-  module _ {out : List ℕ} {a k : ℕ} (s : PathLeft level n link old out a k) where
+module _ {trees : Trees} {up : List ℕ} {link m : ℕ} {old : List ℕ} (h : PathIn trees up link m old) where
+  module _ {out : List ℕ} {a k : ℕ} (s : PathLeft trees link old out a k) where
     -- how many rows are left and written
-    parts : length (path_rows level n link) ≡ k + length s.below
+    parts : length (path_rows trees.level.now trees.count link) ≡ k + length s.below
     parts =
         ap length s.split
-        ∙ length-append (path_rows level n a) s.below
+        ∙ length-append (path_rows trees.level.now trees.count a) s.below
         ∙ ap (λ (j : ℕ). j + length s.below) s.many
 
-    pub path_few : k ≤ length old
+    path_few : k ≤ length old
     path_few = omega (arith, parts, h.many, h.room)
-
-    pub path_length : length out ≡ length old
-    path_length =
-        let p = parts in
-        let q = h.many in
-        let r = h.room in
-        ap length s.holds ∙ simp (length-append, length-take, length-drop) (omega arith)
 
     -- where a row is left, the link names one
     pub path_some : 0 < k → 0 < a
@@ -113,40 +96,41 @@ module _ {size level : List ℕ} {n : ℕ} {up : List ℕ} {link m : ℕ} {old :
       where
         go : (x : ℕ) → a ≡ x → 0 < x
         go zero e =
-            let q : length (path_rows level n a) ≡ 0 =
-            ap (λ (x : ℕ). length (path_rows level n x)) e ∙ ap length (path_none h.shape) in
+            let q : length (path_rows trees.level.now trees.count a) ≡ 0 =
+            ap (λ (x : ℕ). length (path_rows trees.level.now trees.count x)) e ∙ ap length (path_none trees.shape) in
             absurd (omega (arith, s.many))
         go (suc x) e = omega arith
 
     module _ (j v : ℕ) (e : k ≡ suc j) (g : a ≡ suc v) where
-      row_in : v < n
+      row_in : v < trees.count
       row_in = omega (arith, s.low)
 
-      P-is : at up v ≡ parent level v
+      P-is : at up v ≡ parent trees.level.now v
       P-is = h.parents.parents v row_in
 
       -- the path from row v is that from its parent, as the column has it, and v
-      last : path_rows level n a ≡ path_rows level n (at up v) ++ (v ∷ [])
+      last : path_rows trees.level.now trees.count a ≡ path_rows trees.level.now trees.count (at up v) ++ (v ∷ [])
       last =
-          ap (path_rows level n) g
-          ∙ path_snoc h.shape v row_in
-          ∙ ap (λ (x : ℕ). path_rows level n x ++ (v ∷ [])) (sym P-is)
+          ap (path_rows trees.level.now trees.count) g
+          ∙ path_snoc trees.shape v row_in
+          ∙ ap (λ (x : ℕ). path_rows trees.level.now trees.count x ++ (v ∷ [])) (sym P-is)
 
-      fewer : length (path_rows level n a) ≡ length (path_rows level n (at up v)) + 1
-      fewer = ap length last ∙ length-append (path_rows level n (at up v)) (v ∷ [])
+      fewer : length (path_rows trees.level.now trees.count a)
+          ≡ length (path_rows trees.level.now trees.count (at up v)) + 1
+      fewer = ap length last ∙ length-append (path_rows trees.level.now trees.count (at up v)) (v ∷ [])
 
-      pub path_next : PathLeft level n link old (set out j v) (at up v) j
+      pub path_next : PathLeft trees link old (set out j v) (at up v) j
       path_next =
-          let rest : List ℕ = s.below ++ drop (length (path_rows level n link)) old in
+          let rest : List ℕ = s.below ++ drop (length (path_rows trees.level.now trees.count link)) old in
           let l : j < length old = omega (arith, path_few) in
           record {
             below = v ∷ s.below;
-            low = omega (arith, P-is, parent_low level v, row_in);
+            low = omega (arith, P-is, parent_low trees.level.now v, row_in);
             many = omega (arith, fewer, s.many);
             split =
                 s.split
                 ∙ ap (λ (xs : List ℕ). xs ++ s.below) last
-                ∙ append_snoc (path_rows level n (at up v)) v s.below;
+                ∙ append_snoc (path_rows trees.level.now trees.count (at up v)) v s.below;
             holds =
                 ap (λ (o : List ℕ). set o j v) s.holds
                 ∙ ap (λ (i : ℕ). set (take i old ++ rest) j v) e
@@ -155,13 +139,13 @@ module _ {size level : List ℕ} {n : ℕ} {up : List ℕ} {link m : ℕ} {old :
                 ∙ set_at (take j old) (get_or old j 0) rest v j (length-take-le j old (omega arith));
           }
 
-    pub path_done : k ≤ 0 → Wrote (path_rows level n link) old m out
+    pub path_done : k ≤ 0 → Wrote (path_rows trees.level.now trees.count link) old m out
     unfolding overwritten
     path_done l =
         let z : k ≡ 0 = omega arith in
-        let b : path_rows level n link ≡ s.below =
-        s.split ∙ ap (λ (xs : List ℕ). xs ++ s.below) (empty (path_rows level n a) (s.many ∙ z)) in
-        let rest : List ℕ = drop (length (path_rows level n link)) old in
+        let b : path_rows trees.level.now trees.count link ≡ s.below =
+        s.split ∙ ap (λ (xs : List ℕ). xs ++ s.below) (empty (path_rows trees.level.now trees.count a) (s.many ∙ z)) in
+        let rest : List ℕ = drop (length (path_rows trees.level.now trees.count link)) old in
         record {
           many = sym h.many;
           holds =

@@ -2,9 +2,10 @@
 -- write it ask for. Assumes nothing.
 use Rattle.std.specs.Prelude.{ℕ, ◌≤◌, ◌≡◌, Bool, true, ◌&&◌, ◌||◌, List, eqb, length}
 use Rattle.tree.specs.Search.{gather}
-use Rattle.tree.specs.Rules.{Shape}
 use Rattle.scan.specs.OneRole.{RoleIn, Parents}
 use Rattle.ways.specs.Above.{on_path}
+use Rattle.scan.specs.declared.trees.Trees.{Trees}
+use Rattle.scan.specs.declared.want.NodeTest.{NodeTest}
 use Rattle.scan.specs.declared.want.Want.{Want}
 
 -- the rows below n that a link names or that are its ancestors, ascending
@@ -20,16 +21,14 @@ unfoldable pub lone_path : ℕ → ℕ → Want → Bool
 lone_path many axis want = eqb many 1 && upward axis want
 
 -- the path of a link has k rows, and there is room for them
-pub record PathIn (size level : List ℕ) (n : ℕ) (up : List ℕ) (link k : ℕ) (out : List ℕ) : Type 0 where
-  pub shape : Shape size level n
-  pub parents : Parents level n up
-  pub low : link ≤ n
-  pub many : length (path_rows level n link) ≡ k
+pub record PathIn (trees : Trees) (up : List ℕ) (link k : ℕ) (out : List ℕ) : Type 0 where
+  pub parents : Parents trees.level.now trees.count up
+  pub low : link ≤ trees.count
+  pub many : length (path_rows trees.level.now trees.count link) ≡ k
   pub room : k ≤ length out
 
 -- one context whose rows are on its way up, the parents, and room for the rows
-pub record LoneIn (axis : ℕ) (size level kind name : List ℕ) (n : ℕ) (up cs : List ℕ) (want : Want) (out : List ℕ)
-    : Type 0 where
-  pub lone : lone_path (length cs) axis want ≡ true
-  pub asks : RoleIn axis size level kind name n cs want out
-  pub parents : Parents level n up
+pub record LoneIn (axis : ℕ) (trees : Trees) (up : List ℕ) (test : NodeTest) (cs out : List ℕ) : Type 0 where
+  pub lone : lone_path (length cs) axis test.want ≡ true
+  pub asks : RoleIn axis trees test cs out
+  pub parents : Parents trees.level.now trees.count up

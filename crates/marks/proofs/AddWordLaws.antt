@@ -1,20 +1,23 @@
--- Rows of one word, put into the set by their bits: `add_joined`. Assumes nothing.
+-- Rows of one word, put into the set by their bits: `add_joined`, `add_used`; a word of one row: `one_some`, `one_row`.
+-- Assumes nothing.
 use mathlib.Core.Path.{◌≡◌, refl, sym, ap, ap₂, ◌∙◌}
 use mathlib.Core.Logic.{⊎_elim}
 use mathlib.Core.Bool.{Bool, true, false, not, ◌&&◌, ◌||◌, or-false, or-true, or_comm}
 use mathlib.Core.List.{List}
 use Prim.Native.Nat.{ℕ, ◌+◌, ◌-◌, ◌*◌, ◌/◌, ◌%◌, ◌^◌, ◌<◌, ◌≤◌}
 use native.Mathlib.Omega.{arith}
-use borrow.Author.Tests.{ne_eqb, eqb-true, eqb-false, leb-true, le-leb}
+use borrow.Author.Tests.{eq-eqb, ne_eqb, eqb-true, eqb-false, leb-true, le-leb}
 use lib.Dec.{eqb, leb}
-use lib.ListN.{length, set}
+use lib.ListN.{set, length-set}
 use lib.Seq.{get_or-set_same, get_or-set_other}
 use lib.Bits.{bit_or, or_add_and, and_le_l}
 use Rattle.tree.specs.Table.{at}
 use Rattle.tree.proofs.TreeLaws.{less?}
-use Rattle.marks.specs.RowSet.{bit, has, in_word, RowSet}
+use Rattle.tree.proofs.SoundLaws.{both, both_of}
+use Rattle.tree.proofs.AxisLaws.{same_test}
+use Rattle.marks.specs.RowSet.{bit, has, in_word, Used}
 use Rattle.marks.specs.Mark.{Joined}
-use Rattle.marks.proofs.BitLaws.{bit_or_lem, bit_high}
+use Rattle.marks.proofs.BitLaws.{bit_or_lem, bit_high, bit_nonzero, bit_pow}
 use Rattle.marks.proofs.RowSetLaws.{bit_with}
 
 -- a row of the word, by its bit; any other is not in it
@@ -42,18 +45,18 @@ in_word_not j word w l n = go (leb (64 * j) w) refl
 abbrev with_bits : List ℕ → ℕ → ℕ → List ℕ
 with_bits words j bits = set words j (bit_or (at words j) bits)
 
-module _ (words : List ℕ) (used j bits : ℕ) (long : length words ≡ 64) (low : j < 64) where
+module _ {words : List ℕ} {used : ℕ} (s : Used words used) (j bits : ℕ) (low : j < 64) where
   -- word j has the bits, and the others are as they were
   at_same : (i : ℕ) → i ≡ j → at (with_bits words j bits) i ≡ bit_or (at words j) bits
-  at_same i e = ap (at (with_bits words j bits)) e ∙ get_or-set_same words j _ 0 (omega arith)
+  at_same i e = ap (at (with_bits words j bits)) e ∙ get_or-set_same words j _ 0 (omega (arith, s.long))
 
   at_other : (i : ℕ) → (i ≡ j → ⊥) → at (with_bits words j bits) i ≡ at words i
   at_other i n = get_or-set_other words j i _ 0 n
 
   -- the words that are not 0 are those of before and word j
-  with_marks : RowSet words used → (bits ≡ 0 → ⊥) → (i : ℕ) → i < 64
+  with_marks : (bits ≡ 0 → ⊥) → (i : ℕ) → i < 64
       → bit (bit_or used (2 ^ j)) i ≡ not (eqb (at (with_bits words j bits) i) 0)
-  with_marks s some i l = bit_with used j i ∙ go (eqb i j) refl
+  with_marks some i l = bit_with used j i ∙ go (eqb i j) refl
     where
       go : (t : Bool) → eqb i j ≡ t → (bit used i || t) ≡ not (eqb (at (with_bits words j bits) i) 0)
       go true e =
@@ -84,6 +87,23 @@ module _ (words : List ℕ) (used j bits : ℕ) (long : length words ≡ 64) (lo
           ∙ ap (λ (t : Bool). t || has words w) (sym (in_word_not j bits w m n))
 
   -- the rows are put in
-  pub add_joined : RowSet words used → (bits ≡ 0 → ⊥) → bits < 2 ^ 64
-      → Joined (in_word (64 * j) bits) words (with_bits words j bits) (bit_or used (2 ^ j))
-  add_joined s some m = record { set = record { marks = with_marks s some }; rows = λ w l. with_rows m w }
+  pub add_joined : bits < 2 ^ 64 → Joined (in_word (64 * j) bits) words (with_bits words j bits)
+  add_joined m = record { rows = λ w l. with_rows m w }
+
+  pub add_used : (bits ≡ 0 → ⊥) → Used (with_bits words j bits) (bit_or used (2 ^ j))
+  add_used some = record { long = length-set words j _ ∙ s.long; marks = with_marks some }
+
+-- a word with one bit is not 0
+pub one_some : (b : ℕ) → 2 ^ b ≡ 0 → ⊥
+one_some b = bit_nonzero (2 ^ b) b (bit_pow b b ∙ eq-eqb b b refl)
+
+-- the word of row x with its bit alone
+pub one_row : (x w : ℕ) → in_word (64 * (x / 64)) (2 ^ (x % 64)) w ≡ eqb w x
+unfolding in_word
+one_row x w = ap (λ (t : Bool). leb (64 * (x / 64)) w && t) (bit_pow (x % 64) (w - 64 * (x / 64))) ∙ same_test _ _
+    (λ t. let y = both (leb (64 * (x / 64)) w) (eqb (w - 64 * (x / 64)) (x % 64)) t in
+    let l : 64 * (x / 64) ≤ w = leb-true _ _ y.0 in
+    let e : w - 64 * (x / 64) ≡ x % 64 = eqb-true _ _ y.1 in
+    eq-eqb w x (omega arith))
+    (λ t. let e : w ≡ x = eqb-true w x t in
+    both_of (le-leb (64 * (x / 64)) w (omega arith)) (eq-eqb (w - 64 * (x / 64)) (x % 64) (omega arith)))

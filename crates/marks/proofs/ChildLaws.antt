@@ -13,6 +13,7 @@ use Rattle.tree.specs.Axis.{on_axis}
 use Rattle.tree.proofs.TreeLaws.{parent_below}
 use Rattle.tree.proofs.SoundLaws.{both, both_of}
 use Rattle.tree.proofs.AxisLaws.{same_test}
+use Rattle.scan.specs.declared.trees.Trees.{Trees}
 use Rattle.marks.specs.RowSet.{Marked}
 use Rattle.marks.specs.Mark.{child_in, Joined, AddsChildren, Turn}
 use Rattle.tree.proofs.SubtreeLaws.{child_within}
@@ -31,57 +32,56 @@ module _ (level : List ℕ) (c w : ℕ) where
   on_child : parent level w ≡ suc c → on_axis 2 level c w ≡ true
   on_child e = axis_child ∙ eq-eqb (parent level w) (suc c) e
 
-module _ {size level : List ℕ} {n : ℕ} {cs : List ℕ} {i : ℕ} {old : List ℕ} {u : ℕ}
-    (t : Turn 2 size level n cs i (take i cs) old u) where
+module _ {trees : Trees} {cs : List ℕ} {i : ℕ} {old : List ℕ}
+    (t : Turn 2 trees cs i (take i cs) old) where
   -- the context, and the row after its descendants
   abbrev C : ℕ
   C = at cs i
 
   abbrev E : ℕ
-  E = C + at size C + 1
+  E = C + at trees.size.now C + 1
 
-  before_end : (w : ℕ) → w < E → w < n
+  before_end : (w : ℕ) → w < E → w < trees.count
   before_end w l = omega (arith, turn_fits t)
 
-  first : C + 1 < E → parent level (C + 1) ≡ suc C
-  first l = child_first t.shape C (turn_row t) (omega arith)
+  first : C + 1 < E → parent trees.level.now (C + 1) ≡ suc C
+  first l = child_first trees.shape C (turn_row t) (omega arith)
 
   -- a child that is in was put there by a context equal to this one
-  pub children_asks : AddsChildren size level n C (C + 1) E old u
+  pub children_asks : AddsChildren trees C (C + 1) E old
   children_asks = record {
-    shape = t.shape;
     row = turn_row t;
     after = omega arith;
     inside = omega arith;
     child = first;
-    set = t.marked.set;
     whole = λ l x w y.
-        let g : ChildIn level C (C + 1) E w = child_in_lem level C (C + 1) E w y in
-        marked_also t.marked t.shape.few (C + 1) w (before_end (C + 1) l) (before_end w g.before)
+        let g : ChildIn trees.level.now C (C + 1) E w = child_in_lem trees.level.now C (C + 1) E w y in
+        marked_also t.marked (C + 1) w (before_end (C + 1) l) (before_end w g.before)
         (λ k m z. let d : ℕ = at (take i cs) k in
-        on_child level d w (g.child ∙ sym (first l) ∙ child_on level d (C + 1) z))
+        on_child trees.level.now d w (g.child ∙ sym (first l) ∙ child_on trees.level.now d (C + 1) z))
         x;
   }
 
   -- the children up to the end are all the children
-  child_same : (w : ℕ) → child_in level C (C + 1) E w ≡ (ltb w n && on_axis 2 level C w)
+  child_same : (w : ℕ) → child_in trees.level.now C (C + 1) E w ≡ (ltb w trees.count && on_axis 2 trees.level.now C w)
   child_same w = same_test _ _ there back
     where
-      there : child_in level C (C + 1) E w ≡ true → (ltb w n && on_axis 2 level C w) ≡ true
+      there : child_in trees.level.now C (C + 1) E w ≡ true
+          → (ltb w trees.count && on_axis 2 trees.level.now C w) ≡ true
       there x =
-          let g : ChildIn level C (C + 1) E w = child_in_lem level C (C + 1) E w x in
-          both_of (lt-ltb w n (before_end w g.before)) (on_child level C w g.child)
+          let g : ChildIn trees.level.now C (C + 1) E w = child_in_lem trees.level.now C (C + 1) E w x in
+          both_of (lt-ltb w trees.count (before_end w g.before)) (on_child trees.level.now C w g.child)
 
-      back : (ltb w n && on_axis 2 level C w) ≡ true → child_in level C (C + 1) E w ≡ true
+      back : (ltb w trees.count && on_axis 2 trees.level.now C w) ≡ true → child_in trees.level.now C (C + 1) E w ≡ true
       back x =
-          let y = both (ltb w n) (on_axis 2 level C w) x in
-          let e : parent level w ≡ suc C = child_on level C w y.1 in
-          in_child level C (C + 1) E w record {
+          let y = both (ltb w trees.count) (on_axis 2 trees.level.now C w) x in
+          let e : parent trees.level.now w ≡ suc C = child_on trees.level.now C w y.1 in
+          in_child trees.level.now C (C + 1) E w record {
             child = e;
-            from = omega (arith, parent_below level w C e);
-            before = omega (arith, child_within t.shape C w (ltb-true w n y.0) e);
+            from = omega (arith, parent_below trees.level.now w C e);
+            before = omega (arith, child_within trees.shape C w (ltb-true w trees.count y.0) e);
           }
 
-  pub children_done : {new : List ℕ} {r : ℕ} → Joined (child_in level C (C + 1) E) old new r
-      → Marked 2 level n (take (i + 1) cs) new r
-  children_done j = turn_take t (child_in level C (C + 1) E) j (λ w l. child_same w) refl
+  pub children_done : {new : List ℕ} → Joined (child_in trees.level.now C (C + 1) E) old new
+      → Marked 2 trees (take (i + 1) cs) new
+  children_done j = turn_take t (child_in trees.level.now C (C + 1) E) j (λ w l. child_same w) refl

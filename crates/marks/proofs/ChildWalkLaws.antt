@@ -20,6 +20,7 @@ use Rattle.tree.proofs.SoundLaws.{shape_steps, shape_fits}
 use Rattle.tree.proofs.SubtreeLaws.{in_under, under_in, child_is}
 use Rattle.tree.proofs.SoundLaws.{both, both_of, either, either_left, either_right}
 use Rattle.tree.proofs.AxisLaws.{same_test}
+use Rattle.scan.specs.declared.trees.Trees.{Trees}
 use Rattle.marks.specs.RowSet.{has, in_word}
 use Rattle.marks.specs.Mark.{child_in, Joined, AddsChildren, Gathers, Gathered}
 use Rattle.marks.proofs.MarkLaws.{joined_none, joined_as, joined_more}
@@ -127,44 +128,44 @@ child_split level p a v r w l h = same_test _ _
     (less? w v))
 
 -- the children before v are in, all before e, and v is the next child, or not before e
-pub record ChildrenAdded (level : List ℕ) (p a e : ℕ) (old words : List ℕ) (used v : ℕ) : Type 0 where
+pub record ChildrenAdded (level : List ℕ) (p a e : ℕ) (old words : List ℕ) (v : ℕ) : Type 0 where
   pub low : a ≤ v
   pub child : v < e → parent level v ≡ suc p
   pub inside : (w : ℕ) → child_in level p a v w ≡ true → w < e
-  pub joined : Joined (child_in level p a v) old words used
+  pub joined : Joined (child_in level p a v) old words
 
-module _ {size level : List ℕ} {n p a e : ℕ} {old : List ℕ} {u : ℕ} (h : AddsChildren size level n p a e old u) where
+module _ {trees : Trees} {p a e : ℕ} {old : List ℕ} (h : AddsChildren trees p a e old) where
   -- there is no child
-  pub walk_nothing : e ≤ a → Joined (child_in level p a e) old old u
-  walk_nothing q = joined_none (child_in level p a e) h.set (λ w l t.
-      let x : ChildIn level p a e w = child_in_lem level p a e w t in
+  pub walk_nothing : e ≤ a → Joined (child_in trees.level.now p a e) old old
+  walk_nothing q = joined_none (child_in trees.level.now p a e) (λ w l t.
+      let x : ChildIn trees.level.now p a e w = child_in_lem trees.level.now p a e w t in
       absurd (omega arith))
 
   -- the first child is in
-  pub walk_met : a < e → has old a ≡ true → Joined (child_in level p a e) old old u
-  walk_met q t = joined_none (child_in level p a e) h.set (λ w l. h.whole q t w)
+  pub walk_met : a < e → has old a ≡ true → Joined (child_in trees.level.now p a e) old old
+  walk_met q t = joined_none (child_in trees.level.now p a e) (λ w l. h.whole q t w)
 
-  pub walk_start : ChildrenAdded level p a e old old u a
+  pub walk_start : ChildrenAdded trees.level.now p a e old old a
   walk_start = record {
     low = le_refl a;
     child = h.child;
-    inside = λ w t. absurd (child_empty level p a w t);
-    joined = joined_none (child_in level p a a) h.set (λ w l t. absurd (child_empty level p a w t));
+    inside = λ w t. absurd (child_empty trees.level.now p a w t);
+    joined = joined_none (child_in trees.level.now p a a) (λ w l t. absurd (child_empty trees.level.now p a w t));
   }
 
-  module _ {words : List ℕ} {used v : ℕ} (s : ChildrenAdded level p a e old words used v) where
-    pub walk_done : e ≤ v → Joined (child_in level p a e) old words used
-    walk_done q = joined_as (child_in level p a e) s.joined
-        (λ w l t. let x : ChildIn level p a v w = child_in_lem level p a v w t in
-        in_child level p a e w record { child = x.child; from = x.from; before = s.inside w t })
-        (λ w l t. let x : ChildIn level p a e w = child_in_lem level p a e w t in either_left (has old w)
-        (in_child level p a v w record { child = x.child; from = x.from; before = omega arith }))
+  module _ {words : List ℕ} {v : ℕ} (s : ChildrenAdded trees.level.now p a e old words v) where
+    pub walk_done : e ≤ v → Joined (child_in trees.level.now p a e) old words
+    walk_done q = joined_as (child_in trees.level.now p a e) s.joined
+        (λ w l t. let x : ChildIn trees.level.now p a v w = child_in_lem trees.level.now p a v w t in
+        in_child trees.level.now p a e w record { child = x.child; from = x.from; before = s.inside w t })
+        (λ w l t. let x : ChildIn trees.level.now p a e w = child_in_lem trees.level.now p a e w t in
+        either_left (has old w)
+        (in_child trees.level.now p a v w record { child = x.child; from = x.from; before = omega arith }))
 
     module _ (q : v < e) {stop : ℕ} (m : stop ≤ e) where
       -- the next word's children can be gathered
-      pub walk_gathers : v < stop → stop ≤ 64 * (v / 64) + 64 → Gathers size level n p v stop
+      pub walk_gathers : v < stop → stop ≤ 64 * (v / 64) + 64 → Gathers trees p v stop
       walk_gathers b g = record {
-        shape = h.shape;
         row = h.row;
         first = b;
         child = s.child q;
@@ -173,17 +174,17 @@ module _ {size level : List ℕ} {n p a e : ℕ} {old : List ℕ} {u : ℕ} (h :
       }
 
       -- they go in
-      pub walk_next : {r bits : ℕ} {new : List ℕ} {marks : ℕ} → Gathered size level p v stop r bits
-          → Joined (in_word (64 * (v / 64)) bits) words new marks → ChildrenAdded level p a e old new marks r
+      pub walk_next : {r bits : ℕ} {new : List ℕ} → Gathered trees p v stop r bits
+          → Joined (in_word (64 * (v / 64)) bits) words new → ChildrenAdded trees.level.now p a e old new r
       walk_next {r} {bits} g j = record {
         low = omega (arith, s.low, g.low);
         child = λ z. g.child (omega (arith, h.inside));
         inside = λ w t. ⊎_elim
             (λ z. omega (arith, g.inside w z))
             (λ z. s.inside w z)
-            (either (child_in level p v r w) (child_in level p a v w)
-            (child_split level p a v r w s.low g.low ∙ t));
-        joined = joined_more (child_in level p a r) s.joined j (λ w l.
-            ap (λ (b : Bool). b || child_in level p a v w) (g.bits w)
-            ∙ child_split level p a v r w s.low g.low);
+            (either (child_in trees.level.now p v r w) (child_in trees.level.now p a v w)
+            (child_split trees.level.now p a v r w s.low g.low ∙ t));
+        joined = joined_more (child_in trees.level.now p a r) s.joined j (λ w l.
+            ap (λ (b : Bool). b || child_in trees.level.now p a v w) (g.bits w)
+            ∙ child_split trees.level.now p a v r w s.low g.low);
       }

@@ -18,12 +18,12 @@ use Rattle.tree.specs.Table.{at}
 use Rattle.tree.specs.Search.{gather, only}
 use Rattle.tree.proofs.SearchLaws.{gather_zero, gather_suc, gather_skip, gather_grows, gather_ext}
 use Rattle.scan.specs.OneRole.{Wrote}
-use Rattle.scan.specs.declared.want.Want.{Want}
-use Rattle.scan.specs.Want.{fits}
-use Rattle.marks.specs.RowSet.{bit, has, in_word, WordDrains, Drains, Drained}
+use Rattle.scan.specs.declared.want.NodeTest.{NodeTest}
+use Rattle.scan.specs.Want.{accepts}
+use Rattle.marks.specs.RowSet.{bit, has, in_word, Used, WordDrains, Drains, Drained}
 use Rattle.marks.proofs.BitsLeftLaws.{Left, left_start, left_none, left_high, left_low, left_skip, left_next}
 use Rattle.scan.proofs.WroteLaws.{wrote_none, wrote_length, wrote_part}
-use Rattle.marks.proofs.RowSetLaws.{has_word, has_zero, unmarked_zero}
+use Rattle.marks.proofs.RowSetLaws.{has_word, has_zero, unmarked_zero, blank_used}
 use Rattle.marks.proofs.WordLaws.{word_rows}
 
 -- w passes and is not before a
@@ -98,10 +98,10 @@ set_start test old used out₀ l s = record {
   wrote = rw (gather_zero (holding test old)) (wrote_none out₀);
 }
 
-module _ {kind name : List ℕ} {n : ℕ} {want : Want} {old : List ℕ} {used : ℕ} {out₀ : List ℕ}
-    (pre : Drains kind name n want old used out₀) where
+module _ {asks : NodeTest} {n : ℕ} {old : List ℕ} {used : ℕ} {out₀ : List ℕ}
+    (pre : Drains asks n old out₀) (marks : Used old used) where
   abbrev test : ℕ → Bool
-  test = fits want kind name
+  test = accepts asks
 
   -- no row from n on is in the set
   above : (w : ℕ) → n ≤ w → w < 4096 → has old w ≡ false
@@ -138,24 +138,27 @@ module _ {kind name : List ℕ} {n : ℕ} {want : Want} {old : List ℕ} {used :
         gather_skip (holding test old) (64 * s.next) (64 * j) (omega arith)
         (λ w a b.
         let e : bit used (w / 64) ≡ false = none (w / 64) (omega arith) (omega arith) in
-        ap (λ (t : Bool). t && test w) (has_zero old w (unmarked_zero pre.set (omega arith) e)))
+        ap (λ (t : Bool). t && test w) (has_zero old w (unmarked_zero marks (omega arith) e)))
 
     -- a word that is not marked, if it is from next on, is 0
     clear : (j : ℕ) → j < 64 → (s.next ≤ j → bit used j ≡ false) → at words j ≡ 0
     clear j l none = go (leb s.next j) refl
       where
         go : (t : Bool) → leb s.next j ≡ t → at words j ≡ 0
-        go true e = let h : s.next ≤ j = leb-true _ _ e in s.kept j h ∙ unmarked_zero pre.set l (none h)
+        go true e = let h : s.next ≤ j = leb-true _ _ e in s.kept j h ∙ unmarked_zero marks l (none h)
         go false e = s.cleared j (leb-false _ _ e)
 
     -- no word is left
-    pub set_done : left ≡ 0 → Drained kind name n want old out₀ m words out
+    pub set_done : left ≡ 0 → Drained asks n old out₀ m words out
     set_done z =
         let none : (i : ℕ) → s.next ≤ i → bit used i ≡ false = left_none s.rest z in
         record {
           wrote = rw (all_rows ∙ settled 64 s.rest.far (omega arith) (λ i l h. none i l)) s.wrote;
           blank = record { zero = λ j l. clear j l (none j) };
         }
+
+    pub set_used : left ≡ 0 → Used words 0
+    set_used z = blank_used s.long (set_done z).blank
 
     -- a word is left: the lowest is the next
     module _ (some : left ≡ 0 → ⊥) where
@@ -192,7 +195,7 @@ module _ {kind name : List ℕ} {n : ℕ} {want : Want} {old : List ℕ} {used :
           ∙ ap₂ bit (sym (s.kept word (left_low s.rest some))) i ∙ e)
 
       -- its rows can be taken out
-      pub set_asks : WordDrains kind name (64 * word) want (at words word) (mid_of m (length out - m) out)
+      pub set_asks : WordDrains asks (64 * word) (at words word) (mid_of m (length out - m) out)
       set_asks = record {
         low = omega (arith, left_high s.rest some);
         in_kind = λ b l e. omega (arith, in_use b l e, pre.in_kind);

@@ -15,6 +15,7 @@ use Rattle.tree.specs.Axis.{on_axis}
 use Rattle.tree.proofs.TreeLaws.{parent_below}
 use Rattle.tree.proofs.SoundLaws.{both, both_of}
 use Rattle.tree.proofs.AxisLaws.{same_test, false_of}
+use Rattle.scan.specs.declared.trees.Trees.{Trees}
 use Rattle.marks.specs.RowSet.{Marked}
 use Rattle.marks.specs.Mark.{child_in, Joined, AddsChildren, Turn}
 use Rattle.tree.proofs.SubtreeLaws.{child_within}
@@ -22,16 +23,16 @@ use Rattle.marks.proofs.ChildWalkLaws.{child_first, ChildIn, child_in_lem, in_ch
 use Rattle.marks.proofs.ContextLaws.{marked_also, turn_row, turn_drop, none_drop}
 use Rattle.marks.proofs.SiblingLaws.{earlier_on, on_earlier}
 
-module _ {size level : List ℕ} {n : ℕ} {cs : List ℕ} {i : ℕ} {old : List ℕ} {u : ℕ}
-    (t : Turn 11 size level n cs i (drop (i + 1) cs) old u) where
+module _ {trees : Trees} {cs : List ℕ} {i : ℕ} {old : List ℕ}
+    (t : Turn 11 trees cs i (drop (i + 1) cs) old) where
   -- the context
   abbrev C : ℕ
   C = at cs i
 
   -- row 0 has no siblings
-  pub earlier_none : parent level C ≡ 0 → Marked 11 level n (drop i cs) old u
+  pub earlier_none : parent trees.level.now C ≡ 0 → Marked 11 trees (drop i cs) old
   earlier_none e = none_drop t
-      (λ w. false_of (on_axis 11 level C w) (λ x. omega (arith, (earlier_on level C w x).0.some)))
+      (λ w. false_of (on_axis 11 trees.level.now C w) (λ x. omega (arith, (earlier_on trees.level.now C w x).0.some)))
       refl
 
   -- no context that was marked is before this one
@@ -40,57 +41,58 @@ module _ {size level : List ℕ} {n : ℕ} {cs : List ℕ} {i : ℕ} {old : List
       let e : at (drop (i + 1) cs) k ≡ at cs (i + 1 + k) = get_or-drop (i + 1) cs k 0 in
       omega (arith, t.contexts.rising i (i + 1 + k) (omega arith) (omega (arith, length-drop (i + 1) cs)))
 
-  module _ (p : ℕ) (e : parent level C ≡ suc p) where
-    within : C ≤ p + at size p
-    within = child_within t.shape p C (turn_row t) e
+  module _ (p : ℕ) (e : parent trees.level.now C ≡ suc p) where
+    within : C ≤ p + at trees.size.now p
+    within = child_within trees.shape p C (turn_row t) e
 
-    before_context : (w : ℕ) → w < C → w < n
+    before_context : (w : ℕ) → w < C → w < trees.count
     before_context w l = omega (arith, turn_row t)
 
-    first : p + 1 < C → parent level (p + 1) ≡ suc p
-    first l = child_first t.shape p (before_context p (omega arith)) (omega (arith, within))
+    first : p + 1 < C → parent trees.level.now (p + 1) ≡ suc p
+    first l = child_first trees.shape p (before_context p (omega arith)) (omega (arith, within))
 
     -- an earlier sibling that is in was put there by a context not before this one, which reaches all before this
     -- one
-    pub earlier_asks : AddsChildren size level n p (p + 1) C old u
+    pub earlier_asks : AddsChildren trees p (p + 1) C old
     earlier_asks = record {
-      shape = t.shape;
-      row = before_context p (parent_below level C p e);
+      row = before_context p (parent_below trees.level.now C p e);
       after = omega arith;
       inside = omega (arith, within);
       child = first;
-      set = t.marked.set;
       whole = λ l x w y.
-          let g : ChildIn level p (p + 1) C w = child_in_lem level p (p + 1) C w y in
-          marked_also t.marked t.shape.few (p + 1) w (before_context (p + 1) l) (before_context w g.before)
+          let g : ChildIn trees.level.now p (p + 1) C w = child_in_lem trees.level.now p (p + 1) C w y in
+          marked_also t.marked (p + 1) w (before_context (p + 1) l) (before_context w g.before)
           (λ k m z. let d : ℕ = at (drop (i + 1) cs) k in
-          let h = earlier_on level d (p + 1) z in
-          on_earlier level d w
+          let h = earlier_on trees.level.now d (p + 1) z in
+          on_earlier trees.level.now d w
           record { some = h.0.some; same = g.child ∙ sym (first l) ∙ h.0.same }
           (omega (arith, from_last k m, g.before)))
           x;
     }
 
     -- the children of the parent before the context are its earlier siblings
-    earlier_same : (w : ℕ) → child_in level p (p + 1) C w ≡ (ltb w n && on_axis 11 level C w)
+    earlier_same : (w : ℕ)
+        → child_in trees.level.now p (p + 1) C w ≡ (ltb w trees.count && on_axis 11 trees.level.now C w)
     earlier_same w = same_test _ _ there back
       where
-        there : child_in level p (p + 1) C w ≡ true → (ltb w n && on_axis 11 level C w) ≡ true
+        there : child_in trees.level.now p (p + 1) C w ≡ true
+            → (ltb w trees.count && on_axis 11 trees.level.now C w) ≡ true
         there x =
-            let g : ChildIn level p (p + 1) C w = child_in_lem level p (p + 1) C w x in
-            both_of (lt-ltb w n (before_context w g.before))
-            (on_earlier level C w record { some = omega arith; same = g.child ∙ sym e } g.before)
+            let g : ChildIn trees.level.now p (p + 1) C w = child_in_lem trees.level.now p (p + 1) C w x in
+            both_of (lt-ltb w trees.count (before_context w g.before))
+            (on_earlier trees.level.now C w record { some = omega arith; same = g.child ∙ sym e } g.before)
 
-        back : (ltb w n && on_axis 11 level C w) ≡ true → child_in level p (p + 1) C w ≡ true
+        back : (ltb w trees.count && on_axis 11 trees.level.now C w) ≡ true
+            → child_in trees.level.now p (p + 1) C w ≡ true
         back x =
-            let h = earlier_on level C w (both (ltb w n) (on_axis 11 level C w) x).1 in
-            let g : parent level w ≡ suc p = h.0.same ∙ e in
-            in_child level p (p + 1) C w record {
+            let h = earlier_on trees.level.now C w (both (ltb w trees.count) (on_axis 11 trees.level.now C w) x).1 in
+            let g : parent trees.level.now w ≡ suc p = h.0.same ∙ e in
+            in_child trees.level.now p (p + 1) C w record {
               child = g;
-              from = omega (arith, parent_below level w p g);
+              from = omega (arith, parent_below trees.level.now w p g);
               before = h.1;
             }
 
-    pub earlier_done : {new : List ℕ} {r : ℕ} → Joined (child_in level p (p + 1) C) old new r
-        → Marked 11 level n (drop i cs) new r
-    earlier_done j = turn_drop t (child_in level p (p + 1) C) j (λ w l. earlier_same w) refl
+    pub earlier_done : {new : List ℕ} → Joined (child_in trees.level.now p (p + 1) C) old new
+        → Marked 11 trees (drop i cs) new
+    earlier_done j = turn_drop t (child_in trees.level.now p (p + 1) C) j (λ w l. earlier_same w) refl

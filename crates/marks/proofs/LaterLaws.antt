@@ -18,6 +18,7 @@ use Rattle.tree.proofs.TreeLaws.{less?, parent_below}
 use Rattle.tree.proofs.SoundLaws.{shape_fits, both, both_of}
 use Rattle.tree.proofs.AxisLaws.{same_test, false_of}
 use Rattle.scan.proofs.SideLaws.{nests}
+use Rattle.scan.specs.declared.trees.Trees.{Trees}
 use Rattle.marks.specs.RowSet.{Marked}
 use Rattle.marks.specs.Mark.{child_in, Joined, AddsChildren, Turn}
 use Rattle.tree.proofs.SubtreeLaws.{child_within}
@@ -81,49 +82,47 @@ module _ {size level : List ℕ} {n : ℕ} (s : Shape size level n) (c p : ℕ) 
           }
 
 -- ── one context more ──
-module _ {size level : List ℕ} {n : ℕ} {cs : List ℕ} {i : ℕ} {old : List ℕ} {u : ℕ}
-    (t : Turn 10 size level n cs i (take i cs) old u) where
+module _ {trees : Trees} {cs : List ℕ} {i : ℕ} {old : List ℕ}
+    (t : Turn 10 trees cs i (take i cs) old) where
   -- the context
   abbrev C : ℕ
   C = at cs i
 
   -- a root has no siblings
-  pub later_none : parent level C ≡ 0 → Marked 10 level n (take (i + 1) cs) old u
-  later_none e = none_take t (no_later level C e) refl
+  pub later_none : parent trees.level.now C ≡ 0 → Marked 10 trees (take (i + 1) cs) old
+  later_none e = none_take t (no_later trees.level.now C e) refl
 
-  module _ (p : ℕ) (e : parent level C ≡ suc p) where
+  module _ (p : ℕ) (e : parent trees.level.now C ≡ suc p) where
     -- the row after its descendants, and the row after the parent's
     abbrev from : ℕ
-    from = C + at size C + 1
+    from = C + at trees.size.now C + 1
 
     abbrev end : ℕ
-    end = p + at size p + 1
+    end = p + at trees.size.now p + 1
 
-    next : from < end → parent level from ≡ suc p
-    next l = later_first t.shape C p (turn_row t) e (omega arith)
+    next : from < end → parent trees.level.now from ≡ suc p
+    next l = later_first trees.shape C p (turn_row t) e (omega arith)
 
     -- a later sibling that is in was put there by a context before it, which reaches all after it
-    pub later_asks : AddsChildren size level n p (C + at size C + 1) (p + at size p + 1) old u
+    pub later_asks : AddsChildren trees p (C + at trees.size.now C + 1) (p + at trees.size.now p + 1) old
     later_asks = record {
-      shape = t.shape;
-      row = later_parent t.shape C p (turn_row t) e;
-      after = omega (arith, parent_below level C p e);
+      row = later_parent trees.shape C p (turn_row t) e;
+      after = omega (arith, parent_below trees.level.now C p e);
       inside = omega arith;
       child = next;
-      set = t.marked.set;
       whole = λ l x w y.
-          let g : ChildIn level p from end w = child_in_lem level p from end w y in
-          marked_also t.marked t.shape.few from w (later_row t.shape C p (turn_row t) e from l)
-          (later_row t.shape C p (turn_row t) e w g.before)
+          let g : ChildIn trees.level.now p from end w = child_in_lem trees.level.now p from end w y in
+          marked_also t.marked from w (later_row trees.shape C p (turn_row t) e from l)
+          (later_row trees.shape C p (turn_row t) e w g.before)
           (λ k m z. let d : ℕ = at (take i cs) k in
-          let h = later_on level d from z in
-          on_later level d w
+          let h = later_on trees.level.now d from z in
+          on_later trees.level.now d w
           record { some = h.0.some; same = g.child ∙ sym (next l) ∙ h.0.same }
           (omega (arith, h.1, g.from)))
           x;
     }
 
-    pub later_done : {new : List ℕ} {r : ℕ} → Joined (child_in level p from end) old new r
-        → Marked 10 level n (take (i + 1) cs) new r
+    pub later_done : {new : List ℕ} → Joined (child_in trees.level.now p from end) old new
+        → Marked 10 trees (take (i + 1) cs) new
     later_done j =
-        turn_take t (child_in level p from end) j (λ w l. later_same t.shape C p (turn_row t) e w) refl
+        turn_take t (child_in trees.level.now p from end) j (λ w l. later_same trees.shape C p (turn_row t) e w) refl

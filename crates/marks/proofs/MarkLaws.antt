@@ -1,5 +1,5 @@
 -- Sets of rows that grow. What is on the axis of one of several contexts: `any_append`, `any_take_more`, `any_also`.
--- The set with more rows: `joined_none`, `joined_as`, `joined_add`, `joined_more`. The set of what the contexts so far
+-- The set with more rows: `joined_none`, `joined_as`, `joined_more`. The set of what the contexts so far
 -- reach: `marked_none`, `marked_as`, `marked_more`. A set is used through `has` alone. Assumes nothing.
 use Prim.Native.Nat.{ℕ, zero, suc, ◌+◌, ◌<◌}
 use mathlib.Core.Path.{◌≡◌, refl, sym, ap, ap₂, ◌∙◌}
@@ -10,17 +10,18 @@ use mathlib.Core.List.{List, [], ◌∷◌, ◌++◌}
 use native.Mathlib.Nat.{zero-lt-suc}
 use native.Mathlib.Numerals.{add-one}
 use native.Mathlib.Omega.{arith}
-use lib.Dec.{eqb, ltb}
+use lib.Dec.{ltb}
 use lib.ListN.{length, take}
 use lib.Seq.{take-suc}
 use Rattle.tree.specs.Table.{at}
 use Rattle.tree.specs.Axis.{on_axis}
 use Rattle.tree.proofs.SoundLaws.{either, either_left, either_right}
 use Rattle.tree.proofs.AxisLaws.{same_test}
+use Rattle.scan.specs.declared.trees.Trees.{Trees}
 use Rattle.scan.specs.OneRole.{any_on}
-use Rattle.marks.specs.RowSet.{has, RowSet, Blank, Added, Marked}
+use Rattle.marks.specs.RowSet.{has, Blank, Marked}
 use Rattle.marks.specs.Mark.{Joined}
-use Rattle.marks.proofs.RowSetLaws.{has_blank, blank_set}
+use Rattle.marks.proofs.RowSetLaws.{has_blank}
 
 -- ── several contexts ──
 module _ (axis : ℕ) (level : List ℕ) where
@@ -69,23 +70,21 @@ module _ (axis : ℕ) (level : List ℕ) where
 
 -- ── more rows ──
 -- all of them are in already
-pub joined_none : (f : ℕ → Bool) {words : List ℕ} {used : ℕ} → RowSet words used
-    → ((w : ℕ) → w < 4096 → f w ≡ true → has words w ≡ true) → Joined f words words used
-joined_none f {words} s h = record {
-  set = s;
+pub joined_none : (f : ℕ → Bool) {words : List ℕ}
+    → ((w : ℕ) → w < 4096 → f w ≡ true → has words w ≡ true) → Joined f words words
+joined_none f {words} h = record {
   rows = λ w l. same_test _ _
       (λ e. either_right (f w) e)
       (λ e. ⊎_elim (λ p. h w l p) (λ p. p) (either (f w) (has words w) e));
 }
 
-module _ {f : ℕ → Bool} {old words : List ℕ} {used : ℕ} where
+module _ {f : ℕ → Bool} {old words : List ℕ} where
   -- another test: it passes all that went in, and what it passes is in
-  pub joined_as : (g : ℕ → Bool) → Joined f old words used
+  pub joined_as : (g : ℕ → Bool) → Joined f old words
       → ((w : ℕ) → w < 4096 → f w ≡ true → g w ≡ true)
       → ((w : ℕ) → w < 4096 → g w ≡ true → (f w || has old w) ≡ true)
-      → Joined g old words used
+      → Joined g old words
   joined_as g j a b = record {
-    set = j.set;
     rows = λ w l. j.rows w l ∙ same_test _ _
         (λ e. ⊎_elim
         (λ p. either_left (has old w) (a w l p))
@@ -94,23 +93,10 @@ module _ {f : ℕ → Bool} {old words : List ℕ} {used : ℕ} where
         (λ e. ⊎_elim (λ p. b w l p) (λ p. either_right (f w) p) (either (g w) (has old w) e));
   }
 
-  -- one row more
-  pub joined_add : (g : ℕ → Bool) {new : List ℕ} {x r : ℕ} → Joined f old words used → Added words x new r
-      → ((w : ℕ) → w < 4096 → (eqb w x || f w) ≡ g w) → Joined g old new r
-  joined_add g {new} {x} j a h = record {
-    set = a.set;
-    rows = λ w l.
-        a.rows w l
-        ∙ ap (λ (b : Bool). eqb w x || b) (j.rows w l)
-        ∙ sym (or_assoc (eqb w x) (f w) (has old w))
-        ∙ ap (λ (b : Bool). b || has old w) (h w l);
-  }
-
   -- several rows more
-  pub joined_more : {g : ℕ → Bool} (k : ℕ → Bool) {new : List ℕ} {r : ℕ} → Joined f old words used
-      → Joined g words new r → ((w : ℕ) → w < 4096 → (g w || f w) ≡ k w) → Joined k old new r
+  pub joined_more : {g : ℕ → Bool} (k : ℕ → Bool) {new : List ℕ} → Joined f old words
+      → Joined g words new → ((w : ℕ) → w < 4096 → (g w || f w) ≡ k w) → Joined k old new
   joined_more {g} k j a h = record {
-    set = a.set;
     rows = λ w l.
         a.rows w l
         ∙ ap (λ (b : Bool). g w || b) (j.rows w l)
@@ -119,30 +105,30 @@ module _ {f : ℕ → Bool} {old words : List ℕ} {used : ℕ} where
   }
 
 -- ── the contexts so far ──
-pub marked_none : (axis : ℕ) (level : List ℕ) (n : ℕ) {words : List ℕ} → Blank words → Marked axis level n [] words 0
-marked_none axis level n b = record {
-  set = blank_set b;
-  rows = λ w l. has_blank b w l ∙ sym (ap (λ (t : Bool). ltb w n && t) (any_none axis level w) ∙ and-false (ltb w n));
+pub marked_none : (axis : ℕ) (trees : Trees) {words : List ℕ} → Blank words → Marked axis trees [] words
+marked_none axis trees b = record {
+  rows = λ w l. has_blank b w l
+      ∙ sym (ap (λ (t : Bool). ltb w trees.count && t) (any_none axis trees.level.now w)
+      ∙ and-false (ltb w trees.count));
 }
 
-module _ {axis : ℕ} {level : List ℕ} {n : ℕ} where
+module _ {axis : ℕ} {trees : Trees} where
   -- other contexts that reach the same
-  pub marked_as : {cs ds words : List ℕ} {used : ℕ} → ((w : ℕ) → any_on axis level ds w ≡ any_on axis level cs w)
-      → Marked axis level n cs words used → Marked axis level n ds words used
-  marked_as h m = record {
-    set = m.set;
-    rows = λ w l. m.rows w l ∙ ap (λ (b : Bool). ltb w n && b) (sym (h w));
-  }
+  pub marked_as : {cs ds words : List ℕ}
+      → ((w : ℕ) → any_on axis trees.level.now ds w ≡ any_on axis trees.level.now cs w)
+      → Marked axis trees cs words → Marked axis trees ds words
+  marked_as h m = record { rows = λ w l. m.rows w l ∙ ap (λ (b : Bool). ltb w trees.count && b) (sym (h w)) }
 
   -- one context more
-  pub marked_more : (f : ℕ → Bool) (c : ℕ) {cs old new : List ℕ} {used r : ℕ}
-      → Marked axis level n cs old used → Joined f old new r
-      → ((w : ℕ) → w < 4096 → f w ≡ (ltb w n && on_axis axis level c w)) → Marked axis level n (c ∷ cs) new r
+  pub marked_more : (f : ℕ → Bool) (c : ℕ) {cs old new : List ℕ}
+      → Marked axis trees cs old → Joined f old new
+      → ((w : ℕ) → w < 4096 → f w ≡ (ltb w trees.count && on_axis axis trees.level.now c w))
+      → Marked axis trees (c ∷ cs) new
   marked_more f c {cs} m j h = record {
-    set = j.set;
     rows = λ w l.
         j.rows w l
         ∙ ap₂ ◌||◌ (h w l) (m.rows w l)
-        ∙ sym (and-or_distrib_left (ltb w n) (on_axis axis level c w) (any_on axis level cs w))
-        ∙ ap (λ (b : Bool). ltb w n && b) (sym (any_first axis level c cs w));
+        ∙ sym (and-or_distrib_left (ltb w trees.count) (on_axis axis trees.level.now c w)
+        (any_on axis trees.level.now cs w))
+        ∙ ap (λ (b : Bool). ltb w trees.count && b) (sym (any_first axis trees.level.now c cs w));
   }

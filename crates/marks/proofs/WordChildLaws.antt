@@ -5,7 +5,6 @@ use Prim.Native.Nat.{ℕ, suc, ◌+◌, ◌-◌, ◌*◌, ◌/◌, ◌%◌, ◌^
 use mathlib.Core.Path.{◌≡◌, refl, sym, ap, ◌∙◌}
 use mathlib.Core.Logic.{⊎_elim}
 use mathlib.Core.Bool.{Bool, true, false, ◌&&◌, ◌||◌, false≢true, and-false, or_comm}
-use mathlib.Core.List.{List}
 use native.Mathlib.Nat.{le_refl}
 use native.Mathlib.Omega.{arith}
 use borrow.Author.Tests.{eqb-true, eq-eqb, leb-true, leb-false, ne_eqb}
@@ -16,6 +15,7 @@ use Rattle.tree.specs.Tree.{parent}
 use Rattle.tree.proofs.TreeLaws.{less?}
 use Rattle.tree.proofs.SoundLaws.{shape_fits, both, either, either_left, either_right}
 use Rattle.tree.proofs.AxisLaws.{same_test}
+use Rattle.scan.specs.declared.trees.Trees.{Trees}
 use Rattle.marks.specs.RowSet.{bit, in_word}
 use Rattle.marks.specs.Mark.{child_in, Gathers, Gathered}
 use Rattle.marks.proofs.BitLaws.{bit_zero, bit_nonzero}
@@ -52,72 +52,72 @@ word_with j word v w h = go (leb (64 * j) w) refl
         let l : w < 64 * j = leb-false _ _ e in
         sym (ap (λ (t : Bool). t || false) (ne_eqb w v (λ q. omega arith)))
 
-module _ {size level : List ℕ} {n p a e : ℕ} (h : Gathers size level n p a e) where
+module _ {trees : Trees} {p a e : ℕ} (h : Gathers trees p a e) where
   -- its add-children stays in the columns
-  pub gathers_inside : (v : ℕ) → v < e → v + at size v < n
-  gathers_inside v q = omega (arith, shape_fits h.shape v (row_in_use h.shape h.row h.inside v q))
+  pub gathers_inside : (v : ℕ) → v < e → v + at trees.size.now v < trees.count
+  gathers_inside v q = omega (arith, shape_fits trees.shape v (row_in_use trees.shape h.row h.inside v q))
 
-  pub gathered_start : Gathered size level p a e a 0
+  pub gathered_start : Gathered trees p a e a 0
   gathered_start = record {
     low = le_refl a;
     child = λ z. h.child;
-    inside = λ w t. absurd (child_empty level p a w t);
+    inside = λ w t. absurd (child_empty trees.level.now p a w t);
     bits = λ w. word_zero (64 * (a / 64)) w ∙ sym (same_test _ _
-        (λ t. absurd (child_empty level p a w t))
+        (λ t. absurd (child_empty trees.level.now p a w t))
         (λ t. absurd (false≢true t)));
   }
 
-  module _ {v word : ℕ} (s : Gathered size level p a e v word) where
+  module _ {v word : ℕ} (s : Gathered trees p a e v word) where
     -- the first child is in it
     pub gathered_some : a < v → word ≡ 0 → ⊥
     gathered_some l = word_some (64 * (a / 64)) word a (s.bits a
-        ∙ in_child level p a v a record { child = h.child; from = le_refl a; before = l })
+        ∙ in_child trees.level.now p a v a record { child = h.child; from = le_refl a; before = l })
 
-    module _ (q : v < e) (r : ℕ) (k : r ≡ v + at size v + 1) where
-      is_child : parent level v ≡ suc p
+    module _ (q : v < e) (r : ℕ) (k : r ≡ v + at trees.size.now v + 1) where
+      is_child : parent trees.level.now v ≡ suc p
       is_child = s.child (omega (arith, h.inside))
 
       -- the children before the next are those before v, and v
-      more_children : (w : ℕ) → (eqb w v || child_in level p a v w) ≡ child_in level p a r w
+      more_children : (w : ℕ) → (eqb w v || child_in trees.level.now p a v w) ≡ child_in trees.level.now p a r w
       more_children w = same_test _ _ there back
         where
-          there : (eqb w v || child_in level p a v w) ≡ true → child_in level p a r w ≡ true
+          there : (eqb w v || child_in trees.level.now p a v w) ≡ true → child_in trees.level.now p a r w ≡ true
           there t = ⊎_elim
               (λ z. let g : w ≡ v = eqb-true w v z in
-              in_child level p a r w record {
-                child = ap (parent level) g ∙ is_child;
+              in_child trees.level.now p a r w record {
+                child = ap (parent trees.level.now) g ∙ is_child;
                 from = omega (arith, s.low);
                 before = omega arith;
               })
-              (λ z. let x : ChildIn level p a v w = child_in_lem level p a v w z in
-              in_child level p a r w record { child = x.child; from = x.from; before = omega arith })
-              (either (eqb w v) (child_in level p a v w) t)
+              (λ z. let x : ChildIn trees.level.now p a v w = child_in_lem trees.level.now p a v w z in
+              in_child trees.level.now p a r w record { child = x.child; from = x.from; before = omega arith })
+              (either (eqb w v) (child_in trees.level.now p a v w) t)
 
-          back : child_in level p a r w ≡ true → (eqb w v || child_in level p a v w) ≡ true
+          back : child_in trees.level.now p a r w ≡ true → (eqb w v || child_in trees.level.now p a v w) ≡ true
           back t =
-              let x : ChildIn level p a r w = child_in_lem level p a r w t in
+              let x : ChildIn trees.level.now p a r w = child_in_lem trees.level.now p a r w t in
               ⊎_elim
               (λ (z : w < v). either_right (eqb w v)
-              (in_child level p a v w record { child = x.child; from = x.from; before = z }))
+              (in_child trees.level.now p a v w record { child = x.child; from = x.from; before = z }))
               (λ (z : v ≤ w). ⊎_elim
               (λ (y : v < w).
-              absurd (child_none h.shape p v w (row_in_use h.shape h.row h.inside v q) is_child y
+              absurd (child_none trees.shape p v w (row_in_use trees.shape h.row h.inside v q) is_child y
               (omega arith) x.child))
-              (λ (y : w ≤ v). either_left (child_in level p a v w) (eq-eqb w v (omega arith)))
+              (λ (y : w ≤ v). either_left (child_in trees.level.now p a v w) (eq-eqb w v (omega arith)))
               (less? v w))
               (less? w v)
 
       -- child v is gathered, and the next is r
-      pub gathered_next : Gathered size level p a e r (bit_or word (2 ^ (v % 64)))
+      pub gathered_next : Gathered trees p a e r (bit_or word (2 ^ (v % 64)))
       gathered_next = record {
         low = omega (arith, s.low);
-        child = λ z. ap (parent level) k
-            ∙ child_next h.shape p v h.row (row_in_use h.shape h.row h.inside v q) is_child
+        child = λ z. ap (parent trees.level.now) k
+            ∙ child_next trees.shape p v h.row (row_in_use trees.shape h.row h.inside v q) is_child
             (omega arith);
         inside = λ w t. ⊎_elim
             (λ z. let g : w ≡ v = eqb-true w v z in omega arith)
             (λ z. s.inside w z)
-            (either (eqb w v) (child_in level p a v w) (more_children w ∙ t));
+            (either (eqb w v) (child_in trees.level.now p a v w) (more_children w ∙ t));
         bits = λ w. word_with (a / 64) word v w (omega (arith, s.low, h.word))
             ∙ ap (λ (t : Bool). eqb w v || t) (s.bits w)
             ∙ more_children w;

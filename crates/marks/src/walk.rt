@@ -2,7 +2,8 @@
 ghost use Rattle.std.specs.Prelude.{◌+◌, ◌*◌, ◌/◌, ◌<◌, ◌≤◌};
 ghost use Rattle.marks.specs.Mark.{child_in, Joined, AddsChildren, Gathers, Gathered};
 
-use super::row_set;
+use super::row_set::RowSet;
+use scan::trees::Trees;
 
 // Where a walk over one word is: the next row, and the bits of the rows met.
 #[derive(Clone, Copy)]
@@ -13,33 +14,23 @@ struct Spot {
 
 // Puts the children of row p from row `from` on and before row `end` into the set. Where the first is in already,
 // all are.
-pub(crate) fn add_children(
-    size: &[usize],
-    level: &[usize],
-    count: usize,
-    p: usize,
-    from: usize,
-    end: usize,
-    words: &mut [u64; 64],
-    used: u64,
-) -> u64
-    requires { AddsChildren size.now level.now count p from end words.old used }
-    ensures { Joined (child_in level.now p from end) words.old words.new result }
+pub(crate) fn add_children(trees: &Trees<'_>, p: usize, from: usize, end: usize, set: &mut RowSet)
+    requires { AddsChildren trees.now p from end set.old }
+    ensures { Joined (child_in trees.now.level.now p from end) set.old set.new }
 {
     if end <= from {
-        return used;
+        return;
     }
-    if row_set::holds(from, words) {
-        return used;
+    if set.holds(from) {
+        return;
     }
-    let mut mark = used;
     let mut w = from;
+    // The next word begins at the child where the walk over this one stopped.
     while w < end {
-        let s = children_in_word(size, level, count, p, w, word_end(w, end));
-        mark = row_set::add_bits(w / 64, s.word, words, mark);
+        let s = children_in_word(trees, p, w, word_end(w, end));
+        set.add_bits(w / 64, s.word);
         w = s.row;
     }
-    mark
 }
 
 // The end of the rows from w on that are in the word of w and before row `end`.
@@ -47,65 +38,40 @@ fn word_end(w: usize, end: usize) -> usize
     requires { (w < end) × (w < 4096) }
     ensures { (w < result) × (result ≤ end) × (result ≤ 64 * (w / 64) + 64) }
 {
-    let next = w / 64 * 64 + 64;
-    if next < end {
-        return next;
-    }
-    end
+    (w / 64 * 64 + 64).min(end)
 }
 
 // Gathers the children of row p from row `from` on and before row `end`, which are all in one word.
-fn children_in_word(
-    size: &[usize],
-    level: &[usize],
-    count: usize,
-    p: usize,
-    from: usize,
-    end: usize,
-) -> Spot
-    requires { Gathers size.now level.now count p from end }
-    ensures { Gathered size.now level.now p from end result.row result.word
-        × (end ≤ result.row) }
+fn children_in_word(trees: &Trees<'_>, p: usize, from: usize, end: usize) -> Spot
+    requires { Gathers trees.now p from end }
+    ensures { Gathered trees.now p from end result.row result.word × (end ≤ result.row) }
 {
-    let mut w = from;
-    let mut word: u64 = 0;
-    while w < end {
-        let s = past_leaves(size, level, count, p, from, end, w, word);
-        w = s.row;
-        word = s.word;
+    let mut s = Spot { row: from, word: 0 };
+    // The next child is where the one before ends.
+    while s.row < end {
+        s = past_leaves(trees, p, from, end, s);
     }
-    Spot { row: w, word }
+    s
 }
 
 // Gathers on from child `row`: the leaves that follow one another, and the child after them. The next row after a
 // leaf does not wait for its size.
-fn past_leaves(
-    size: &[usize],
-    level: &[usize],
-    count: usize,
-    p: usize,
-    from: usize,
-    end: usize,
-    row: usize,
-    bits: u64,
-) -> Spot
-    requires { Gathers size.now level.now count p from end
-        × Gathered size.now level.now p from end row bits × (row < end) }
-    ensures { Gathered size.now level.now p from end result.row result.word
-        × (row < result.row) }
+fn past_leaves(trees: &Trees<'_>, p: usize, from: usize, end: usize, s: Spot) -> Spot
+    requires gathers { Gathers trees.now p from end × (s.row < end) }
+    requires gathered { Gathered trees.now p from end s.row s.word }
+    ensures { Gathered trees.now p from end result.row result.word × (s.row < result.row) }
 {
-    let mut w = row;
-    let mut word = bits;
-    while w < end {
-        word = word | (1 << (w % 64));
+    let size = trees.size;
+    let mut word = s.word;
+    for w in s.row..end {
+        word |= 1 << (w % 64);
         let below = size[w];
-        w = w + 1;
         if below != 0 {
             return Spot {
-                row: w + below,
+                row: w + 1 + below,
                 word,
             };
         }
     }
-    Spot { row: w, word }
+    Spot { row: end, word }
 }

@@ -31,11 +31,5 @@ pub fn stays(to: usize, first: usize, row: usize) -> usize
     ensures counted { result ≡ cond (gone_row to first row) 0 1 }
     ensures small { result ≤ 1 }
 {
-    if first <= row {
-        return 1;
-    }
-    if row < to {
-        return 1;
-    }
-    0
+    usize::from((first <= row) | (row < to))
 }

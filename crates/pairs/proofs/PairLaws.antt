@@ -13,19 +13,20 @@ use lib.ListN.{length}
 use Rattle.tree.specs.Table.{at}
 use Rattle.tree.specs.Search.{least}
 use Rattle.tree.specs.Pairs.{before, out_of_order}
-use Rattle.tree.specs.Refusal.{given, given_at, next, pair_check}
-use Rattle.tree.specs.declared.Checked.TheVariants.{Passed}
+use Rattle.tree.specs.declared.Refusal.TheVariants.{PairOutOfOrder, PairOutsideTable}
+use Rattle.tree.specs.Refusal.{given, given_at, next, pair_check, passed}
 use Rattle.tree.proofs.SearchLaws.{least_none}
 use Rattle.pairs.specs.Places.{Ordered, Inside}
 
 pub pair_check_is : (role row : List ℕ) (n : ℕ) → length role ≡ length row → length role ≤ 4096
     → pair_check role row n
-    ≡ next (given_at (out_of_order role row) (length role) 4) (given_at (λ i. not (ltb (at row i) n)) (length row) 5)
+    ≡ next (given_at (out_of_order role row) (length role) PairOutOfOrder)
+    (given_at (λ i. not (ltb (at row i) n)) (length row) PairOutsideTable)
 unfolding pair_check given next
 pair_check_is role row n e l =
     let outside : ℕ → Bool = λ i. not (ltb (at row i) n) in
     rw (eq-eqb (length role) (length row) e, le-ltb 4096 (length role) l)
-    (ap (λ (k : ℕ). next (given_at (out_of_order role row) (length role) 4) (given_at outside k 5)) e)
+    (ap (λ (k : ℕ). next (given_at (out_of_order role row) (length role) PairOutOfOrder) (given_at outside k PairOutsideTable)) e)
 
 -- no pair below place i is less than the one before it
 abbrev pub OrderedBelow : List ℕ → List ℕ → ℕ → Type 0
@@ -44,7 +45,7 @@ order_next role row i h e =
 -- pairs without a wrong place pass
 pub pairs_pass : (role row : List ℕ) (n : ℕ) → length role ≡ length row → length role ≤ 4096 → Ordered role row
     → Inside row n
-    → pair_check role row n ≡ Passed
+    → pair_check role row n ≡ passed
 unfolding given_at given next
 pairs_pass role row n e l o i =
     let p : least (out_of_order role row) (length role) ≡ length role =

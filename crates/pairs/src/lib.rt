@@ -9,14 +9,14 @@ ghost use Rattle.tree.specs.Pairs.{before, out_of_order};
 ghost use Rattle.tree.specs.Refusal.{pair_check};
 ghost use Rattle.pairs.specs.Places.{Ordered, Inside};
 
-use basics::{both, either};
-use tree::Checked;
+use basics::either;
+use tree::Refusal;
 
 // Whether the pair (r, v) comes before the pair (q, w).
 fn comes_before(r: usize, v: usize, q: usize, w: usize) -> bool
     ensures { result ≡ before r v q w }
 {
-    either(r < q, both(r == q, v < w))
+    (r < q) | ((r == q) & (v < w))
 }
 
 // Whether some pair is less than the one before it: false only where none is. All places are looked at without a
@@ -26,13 +26,8 @@ fn falls_somewhere(role: &[usize], row: &[usize]) -> bool
     ensures { result ≡ false → Ordered role.now row.now }
 {
     let mut falls = false;
-    let mut i = 1;
-    while i < role.len() {
-        falls = either(
-            falls,
-            comes_before(role[i], row[i], role[i - 1], row[i - 1]),
-        );
-        i += 1;
+    for i in 1..role.len() {
+        falls |= comes_before(role[i], row[i], role[i - 1], row[i - 1]);
     }
     falls
 }
@@ -42,10 +37,8 @@ fn leaves_somewhere(count: usize, row: &[usize]) -> bool
     ensures { result ≡ false → Inside row.now count }
 {
     let mut outside = false;
-    let mut i = 0;
-    while i < row.len() {
-        outside = either(outside, count <= row[i]);
-        i += 1;
+    for &v in row {
+        outside |= count <= v;
     }
     outside
 }
@@ -66,51 +59,47 @@ fn first_disorder(role: &[usize], row: &[usize]) -> usize
     requires { length role.now ≤ length row.now }
     ensures { result ≡ least (out_of_order role.now row.now) (length role.now) }
 {
-    let mut i = 0;
-    while i < role.len() {
+    for i in 0..role.len() {
         if out_of_order(role, row, i) {
             return i;
         }
-        i += 1;
     }
-    i
+    role.len()
 }
 
 // The least place whose row is not below the count, or the number of pairs.
 fn first_outside(count: usize, row: &[usize]) -> usize
     ensures { result ≡ least (λ i. not (ltb (at row.now i) count)) (length row.now) }
 {
-    let mut i = 0;
-    while i < row.len() {
-        if count <= row[i] {
+    for (i, &v) in row.iter().enumerate() {
+        if count <= v {
             return i;
         }
-        i += 1;
     }
-    i
+    row.len()
 }
 
 // Refusal 3, 4 or 5, or that the pairs ascend and name rows below the count.
-pub fn check_pairs(count: usize, role: &[usize], row: &[usize]) -> Checked
+pub fn check_pairs(count: usize, role: &[usize], row: &[usize]) -> Result<(), Refusal>
     ensures { result ≡ pair_check role.now row.now count }
 {
     if role.len() != row.len() {
-        return Checked::Refused(3, 0);
+        return Err(Refusal::BadPairColumns);
     }
     let too_long = 4096 < role.len();
     if too_long {
-        return Checked::Refused(3, 0);
+        return Err(Refusal::BadPairColumns);
     }
     if !either(falls_somewhere(role, row), leaves_somewhere(count, row)) {
-        return Checked::Passed;
+        return Ok(());
     }
     let disorder = first_disorder(role, row);
     if disorder < role.len() {
-        return Checked::Refused(4, disorder);
+        return Err(Refusal::PairOutOfOrder(disorder));
     }
     let outside = first_outside(count, row);
     if outside < row.len() {
-        return Checked::Refused(5, outside);
+        return Err(Refusal::PairOutsideTable(outside));
     }
-    Checked::Passed
+    Ok(())
 }

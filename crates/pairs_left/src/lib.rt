@@ -25,10 +25,8 @@ pub fn count_left(row: &[usize], to: usize, first: usize) -> usize
         return row.len();
     }
     let mut left = 0;
-    let mut i = 0;
-    while i < row.len() {
-        left += stays(to, first, row[i]);
-        i += 1;
+    for &w in row {
+        left += stays(to, first, w);
     }
     left
 }
@@ -47,11 +45,9 @@ fn write_all(
     ensures { Carries role.now row.now edit
         out_role.old out_row.old out_role.new out_row.new }
 {
-    let mut i = 0;
-    while i < left {
+    for i in 0..left {
         out_role[i] = role[i];
         out_row[i] = row_after(edit.old, edit.first, edit.moved, row[i]);
-        i += 1;
     }
 }
 
@@ -118,6 +114,7 @@ fn write_fours(
 {
     let mut n = 0;
     let mut i = 0;
+    // Not `chunks`: how many are left goes by what was written, not by what was read.
     while n + 4 <= left {
         n = put_four(role, row, edit, i, n, out_role, out_row);
         i += 4;
@@ -144,6 +141,7 @@ fn write_left(
     let reached = write_fours(role, row, edit, left, out_role, out_row);
     let mut n = reached.written;
     let mut i = reached.read;
+    // Not `for`: n grows by the pairs that stay.
     while n < left {
         n = put_pair(role, row, edit, i, n, out_role, out_row);
         i += 1;

@@ -3,31 +3,27 @@
 
 ghost use Rattle.std.specs.Prelude.{◌≡◌, ℕ, ◌+◌, ◌<◌, ◌≤◌, ◌||◌, ltb, length};
 ghost use Rattle.tree.specs.Search.{some_below};
-ghost use Rattle.tree.specs.Table.{table_of, at, shortest};
+ghost use Rattle.tree.specs.Table.{seen, at, shortest};
 ghost use Rattle.tree.specs.Refusal.{bad_piece, insert_check};
 ghost use Rattle.table.specs.RowFound.{RowKnown};
 
 use basics::either;
-use tree::Checked;
+use tree::{Columns, Refusal};
 
 // Whether a piece would be refused by the check, or begins with a document, or has several trees: then row 0 and its
 // descendants are not the whole piece.
-fn bad_piece(
-    key: &[usize],
-    size: &[usize],
-    level: &[usize],
-    kind: &[usize],
-    name: &[usize],
-    count: usize,
-) -> bool
-    ensures { result ≡ bad_piece
-        (table_of key.now size.now level.now kind.now
-        name.now count) }
+fn bad_piece(piece: &Columns<'_>) -> bool
+    ensures { result ≡ bad_piece (seen piece.now) }
 {
-    let checked = table::check(key, size, level, kind, name, count);
-    if let Checked::Refused(_, _) = checked {
+    if table::check_columns(piece).is_err() {
         return true;
     }
+    let Columns {
+        size,
+        kind,
+        count,
+        ..
+    } = *piece;
     either(kind[0] == 0, size[0] + 1 != count)
 }
 
@@ -37,76 +33,45 @@ fn too_deep(level: &[usize], n: usize, add: usize) -> bool
     requires by_index { ((i : ℕ) → i < n → at level.now i ≤ 63) × (add ≤ 64) }
     ensures { result ≡ some_below (λ i. ltb 63 (at level.now i + add)) n }
 {
-    let mut i = 0;
-    while i < n {
-        let above = 63 < level[i] + add;
+    for &own in &level[..n] {
+        let above = 63 < own + add;
         if above {
             return true;
         }
-        i += 1;
     }
     false
 }
 
 // Whether so many rows are above the limit, or more than the shortest column holds.
-fn no_room(
-    key: &[usize],
-    size: &[usize],
-    level: &[usize],
-    kind: &[usize],
-    name: &[usize],
-    count: usize,
-    total: usize,
-) -> bool
-    ensures { result ≡ (ltb 4096 total || ltb (shortest
-        (table_of key.now size.now level.now kind.now
-        name.now count)) total) }
+fn no_room(columns: &Columns<'_>, total: usize) -> bool
+    ensures { result ≡ (ltb 4096 total || ltb (shortest (seen columns.now)) total) }
 {
-    either(
-        4096 < total,
-        rows::shortest(key, size, level, kind, name, count) < total,
-    )
+    (4096 < total) | (rows::shortest(columns) < total)
 }
 
 // Refusals 10 to 14 of a piece under a row, in their order.
-pub fn check_piece(
-    key: &[usize],
-    size: &[usize],
-    level: &[usize],
-    kind: &[usize],
-    name: &[usize],
-    count: usize,
-    row: usize,
-    p_key: &[usize],
-    p_size: &[usize],
-    p_level: &[usize],
-    p_kind: &[usize],
-    p_name: &[usize],
-    p_count: usize,
-) -> Checked
-    requires { RowKnown (table_of key.now size.now level.now kind.now name.now count) row }
-    ensures { result ≡ insert_check
-        (table_of key.now size.now level.now kind.now
-        name.now count) row
-        (table_of p_key.now p_size.now p_level.now p_kind.now
-        p_name.now p_count) }
+#[tactic(auto, using(crate::proofs::PieceLaws::answers))]
+pub fn check_piece(columns: &Columns<'_>, row: usize, piece: &Columns<'_>) -> Result<(), Refusal>
+    requires { RowKnown (seen columns.now) row }
+    ensures { result ≡ insert_check (seen columns.now) row (seen piece.now) }
 {
-    if bad_piece(p_key, p_size, p_level, p_kind, p_name, p_count) {
-        return Checked::Refused(10, 0);
+    if bad_piece(piece) {
+        return Err(Refusal::BadPiece);
     }
-    let childless = 1 < kind[row];
+    let childless = 1 < columns.kind[row];
     if childless {
-        return Checked::Refused(11, row);
+        return Err(Refusal::NotAParent(row));
     }
-    if too_deep(p_level, p_count, level[row] + 1) {
-        return Checked::Refused(12, 0);
+    if too_deep(piece.level, piece.count, columns.level[row] + 1) {
+        return Err(Refusal::TooDeep);
     }
-    let clash = clash::first_clash(key, count, p_key, p_count);
-    if clash < p_count {
-        return Checked::Refused(13, clash);
+    let clash = clash::first_clash(columns.key, columns.count, piece.key, piece.count);
+    if clash < piece.count {
+        return Err(Refusal::KeyTaken(clash));
     }
-    if no_room(key, size, level, kind, name, count, count + p_count) {
-        return Checked::Refused(14, 0);
+    let total = columns.count + piece.count;
+    if no_room(columns, total) {
+        return Err(Refusal::NoRoom);
     }
-    Checked::Passed
+    Ok(())
 }

@@ -10,12 +10,10 @@ use Rattle.tree.specs.Table.{Table, at, shortest}
 use Rattle.tree.specs.Rules.{Sound}
 use Rattle.tree.specs.EditRules.{InsertFits}
 use Rattle.tree.specs.Edit.{opened, changed, gap_of, inserted, insert_done}
-use Rattle.tree.specs.Refusal.{insert_check}
+use Rattle.tree.specs.Refusal.{insert_check, passed}
 use Rattle.tree.specs.Outcome.{row_there}
-use Rattle.tree.specs.declared.Checked.TheVariants.{Passed}
 use Rattle.tree.specs.declared.Located.{Located}
 use Rattle.tree.specs.declared.Done.{Done}
-use Rattle.tree.specs.declared.Edited.TheVariants.{Made}
 use Rattle.tree.proofs.AcceptLaws.{insert_passes}
 use Rattle.tree.proofs.EditLaws.{gap_fits}
 use Rattle.table.specs.RowFound.{RowKnown}
@@ -24,6 +22,7 @@ use Rattle.edit_at.specs.AtRow.{PieceChecked, insert_at}
 use Rattle.shift.specs.Done.{answered}
 use Rattle.sizes.specs.Upward.{up_from}
 use Rattle.edit_at.proofs.OutcomeLaws.{leaves, own_passed}
+use Rattle.std.specs.Prelude.{Ok}
 
 -- what the passes over the columns ask for
 pub record Room (t : Table) (r : ℕ) (p : Table) : Type 0 where
@@ -48,8 +47,8 @@ module _ (t : Table) (f : Located) (p : Table) (k : PieceChecked t f p) (r : ℕ
   known : RowKnown t r
   known = subst (RowKnown t) (sym here) k.found.known
 
-  fits : insert_check t r p ≡ Passed
-  fits = subst (λ (i : ℕ). insert_check t i p ≡ Passed) (sym here) k.fits
+  fits : insert_check t r p ≡ passed
+  fits = subst (λ (i : ℕ). insert_check t i p ≡ passed) (sym here) k.fits
 
   pub room : Room t r p
   unfolding gap_of shortest
@@ -86,7 +85,7 @@ module _ (t : Table) (f : Located) (p : Table) (k : PieceChecked t f p) (r : ℕ
       → kind ≡ opened (r + 1 + at t.size r) t.count p.count p.kind t.kind
       → name ≡ opened (r + 1 + at t.size r) t.count p.count p.name t.name
       → d ≡ answered (t.count + p.count) (r + 1 + at t.size r) (pos p.count)
-      → EditLeaves (insert_at t (row_there f) p) (Made d) key size level kind name
+      → EditLeaves (insert_at t (row_there f) p) (Ok d) key size level kind name
   unfolding inserted insert_done gap_of
   insert_made {d = d} {key = key} {size = size} {level = level} {kind = kind} {name = name} raised keys sizes levels
       kinds names done =
@@ -95,8 +94,8 @@ module _ (t : Table) (f : Located) (p : Table) (k : PieceChecked t f p) (r : ℕ
       let column : (ys xs : List ℕ) → opened (r + 1 + at t.size r) t.count p.count ys xs
       ≡ opened (gap_of t r) t.count p.count ys xs =
       λ ys xs. ap (λ (g : ℕ). opened g t.count p.count ys xs) same in
-      subst (λ (i : ℕ). EditLeaves (insert_at t i p) (Made d) key size level kind name) here (record {
-        answers = ap Made (done ∙ ap (λ (g : ℕ). answered (t.count + p.count) g (pos p.count)) same)
+      subst (λ (i : ℕ). EditLeaves (insert_at t i p) (Ok d) key size level kind name) here (record {
+        answers = ap Ok (done ∙ ap (λ (g : ℕ). answered (t.count + p.count) g (pos p.count)) same)
             ∙ o.answers;
         key_is = keys ∙ column p.key t.key ∙ o.key_is;
         size_is = sizes ∙ column p.size _

@@ -3,7 +3,7 @@
 #![tactic(auto)]
 
 use std::io;
-use tree::{Ask, Stepped};
+use tree::Ask;
 
 // Writes result number i, a line: role, row, key of that row. What is out of reach is left out.
 fn print_line(
@@ -68,11 +68,11 @@ fn main(rt: HostRuntime) -> io::Result<()> {
         &mut out_row,
     );
     match stepped {
-        Stepped::Refused(number, _) => println!(rt; "refusal {number}"),
-        Stepped::Listed(results, kept) => {
+        Err(why) => println!(rt; "refusal {}", why.number()),
+        Ok(tally) => {
             println!(rt; "role row key")?;
-            print_results(&rt, &key, &out_role, &out_row, results)?;
-            println!(rt; "pairs {results} kept {kept}")
+            print_results(&rt, &key, &out_role, &out_row, tally.listed)?;
+            println!(rt; "pairs {} kept {}", tally.listed, tally.kept)
         }
     }
 }

@@ -38,7 +38,7 @@ pub extern "C" fn reach_check(
         (table_of key.now size.now level.now
         kind.now name.now count)) }
 {
-    answer::of_check(table::check(key, size, level, kind, name, count))
+    Answer::from(table::check(key, size, level, kind, name, count))
 }
 
 // The row of a key, its level and its parent's row, or refusal 1, 2 or 9.
@@ -83,7 +83,7 @@ pub extern "C" fn reach_step(
         out_role.old out_row.old)
         result out_role.new out_row.new }
 {
-    answer::of_step(step::step(
+    Answer::from(step::step(
         key,
         size,
         level,
@@ -127,7 +127,7 @@ pub extern "C" fn reach_insert(
         p_name.now p_count)) result
         key.new size.new level.new kind.new name.new }
 {
-    answer::of_edit(edit::insert(
+    Answer::from(edit::insert(
         key, size, level, kind, name, count, parent_key, p_key, p_size, p_level, p_kind, p_name,
         p_count,
     ))
@@ -149,7 +149,7 @@ pub extern "C" fn reach_delete(
         name.old count) key_wanted) result
         key.new size.new level.new kind.new name.new }
 {
-    answer::of_edit(edit::delete(key, size, level, kind, name, count, key_wanted))
+    Answer::from(edit::delete(key, size, level, kind, name, count, key_wanted))
 }
 
 // The row of a key gets a new name: answers as an insertion, or refusal 1, 2, 9 or 16.
@@ -169,7 +169,7 @@ pub extern "C" fn reach_rename(
         name.old count) key_wanted new_name) result
         key.new size.new level.new kind.new name.new }
 {
-    answer::of_edit(edit::rename(key, size, level, kind, name, count, key_wanted, new_name))
+    Answer::from(edit::rename(key, size, level, kind, name, count, key_wanted, new_name))
 }
 
 // The pairs after an edit of a table of so many rows, by the edit's first moved row and move: their number in first, or
@@ -188,7 +188,7 @@ pub extern "C" fn reach_carry(
         out_role.old out_row.old)
         result out_role.new out_row.new }
 {
-    answer::of_carry(carry::carry(role, row, old_count, first, moved, out_role, out_row))
+    Answer::from(carry::carry(role, row, old_count, first, moved, out_role, out_row))
 }
 
 // Deletions and renames one by one, until one is refused: the number done in first and the count in second, on a
@@ -211,7 +211,7 @@ pub extern "C" fn reach_batch(
         item_code.now item_key.now item_name.now) result
         key.new size.new level.new kind.new name.new }
 {
-    answer::of_batch(batch::batch(
+    Answer::from(batch::batch(
         key, size, level, kind, name, count, item_code, item_key, item_name,
     ))
 }

@@ -1,5 +1,5 @@
 -- The least row that breaks a rule other than the key's, so that the keys have a search of their own. That the two make
--- 01's least unsound row is in the proof of `first_bad`, by `least_both`. Assumes nothing.
+-- 01's least unsound row is `first_bad_min` (proofs/FirstBadLaws.antt). Assumes nothing.
 use Rattle.std.specs.Prelude.{ℕ, not}
 use Rattle.tree.specs.Search.{least}
 use Rattle.tree.specs.Table.{Table}

@@ -1,159 +1,92 @@
 // The least row of a table that is not sound: RULES 01, "The table".
 #![tactic(auto)]
 
-ghost use Rattle.std.specs.Prelude.{◌≡◌, ◌<◌};
-ghost use Rattle.tree.specs.Table.{table_of, shortest, count_ok};
+ghost use Rattle.std.specs.Prelude.{◌≡◌, ◌<◌, ◌≤◌, length};
+ghost use Rattle.tree.specs.Table.{seen, shortest, count_ok};
 ghost use Rattle.tree.specs.Sound.{beside_key_ok, first_bad};
 ghost use Rattle.tree.specs.Rules.{InUse};
-ghost use Rattle.keys.specs.Chain.{ChainRoom, Chained};
+ghost use Rattle.keys.specs.Chain.{Empty, Chained};
 ghost use Rattle.rows.specs.FirstBad.{first_bad_beside_key};
 
-use basics::{both, smaller};
+use keys::Chains;
 use rules::{kind_ok, level_ok, name_ok, size_ok};
+use tree::Columns;
 
 mod one_pass; // one_pass.rt: all rules of all rows in one pass
 
 // The length of the shortest column.
-pub fn shortest(
-    key: &[usize],
-    size: &[usize],
-    level: &[usize],
-    kind: &[usize],
-    name: &[usize],
-    count: usize,
-) -> usize
-    ensures { result ≡ shortest
-        (table_of key.now size.now level.now
-        kind.now name.now count) }
+#[tactic(auto, unfolding(tree::specs::Table::shortest))]
+pub fn shortest(columns: &Columns<'_>) -> usize
+    ensures { result ≡ shortest (seen columns.now) }
 {
-    smaller(
-        key.len(),
-        smaller(
-            size.len(),
-            smaller(level.len(), smaller(kind.len(), name.len())),
-        ),
-    )
+    let nodes = columns.kind.len().min(columns.name.len());
+    let shape = columns.size.len().min(columns.level.len().min(nodes));
+    columns.key.len().min(shape)
 }
 
 // Whether the count is 1 to 4,096 and no column is shorter.
-pub fn count_ok(
-    key: &[usize],
-    size: &[usize],
-    level: &[usize],
-    kind: &[usize],
-    name: &[usize],
-    count: usize,
-) -> bool
-    ensures { result ≡ count_ok
-        (table_of key.now size.now level.now
-        kind.now name.now count) }
+#[tactic(auto, unfolding(tree::specs::Table::count_ok))]
+pub fn count_ok(columns: &Columns<'_>) -> bool
+    ensures { result ≡ count_ok (seen columns.now) }
 {
-    both(
-        both(1 <= count, count <= 4096),
-        count <= shortest(key, size, level, kind, name, count),
-    )
+    let count = columns.count;
+    (1 <= count) & (count <= 4096) & (count <= shortest(columns))
 }
 
 // All rules of row i but the key's.
-fn beside_key_ok(
-    key: &[usize],
-    size: &[usize],
-    level: &[usize],
-    kind: &[usize],
-    name: &[usize],
-    count: usize,
-    i: usize,
-) -> bool
-    requires i_lt_count { i < count }
-    requires in_use { InUse (table_of key.now size.now level.now kind.now name.now count) }
-    ensures { result ≡ beside_key_ok
-        (table_of key.now size.now level.now
-        kind.now name.now count) i }
+#[tactic(auto, unfolding(tree::specs::Sound::beside_key_ok))]
+fn beside_key_ok(columns: &Columns<'_>, i: usize) -> bool
+    requires i_lt_count { i < columns.now.count }
+    requires in_use { InUse (seen columns.now) }
+    ensures { result ≡ beside_key_ok (seen columns.now) i }
 {
-    both(
-        both(
-            both(level_ok(level, i), size_ok(size, level, count, i)),
-            kind_ok(size[i], level[i], kind[i]),
-        ),
-        name_ok(kind[i], name[i]),
-    )
+    level_ok(columns.level, i)
+        & size_ok(columns.size, columns.level, columns.count, i)
+        & kind_ok(columns.size[i], columns.level[i], columns.kind[i])
+        & name_ok(columns.kind[i], columns.name[i])
 }
 
 // The least row that breaks a rule other than the key's, or the count, looked for row by row.
-fn search_row_by_row(
-    key: &[usize],
-    size: &[usize],
-    level: &[usize],
-    kind: &[usize],
-    name: &[usize],
-    count: usize,
-) -> usize
-    requires { InUse (table_of key.now size.now level.now kind.now name.now count) }
-    ensures { result ≡ first_bad_beside_key
-        (table_of key.now size.now level.now
-        kind.now name.now count) }
+fn search_row_by_row(columns: &Columns<'_>) -> usize
+    requires { InUse (seen columns.now) }
+    ensures { result ≡ first_bad_beside_key (seen columns.now) }
 {
-    let mut i = 0;
-    while i < count {
-        if !beside_key_ok(key, size, level, kind, name, count, i) {
+    for i in 0..columns.count {
+        if !beside_key_ok(columns, i) {
             return i;
         }
-        i += 1;
     }
-    i
+    columns.count
 }
 
 // The least row that is not sound, or the count: by one pass where every row is sound.
-pub fn first_bad(
-    key: &[usize],
-    size: &[usize],
-    level: &[usize],
-    kind: &[usize],
-    name: &[usize],
-    count: usize,
-) -> usize
-    requires { InUse (table_of key.now size.now level.now kind.now name.now count) }
-    ensures { result ≡ first_bad
-        (table_of key.now size.now level.now
-        kind.now name.now count) }
+#[tactic(auto, using(crate::proofs::FirstBadLaws::first_bad_min))]
+pub fn first_bad(columns: &Columns<'_>) -> usize
+    requires { InUse (seen columns.now) }
+    ensures { result ≡ first_bad (seen columns.now) }
 {
-    if one_pass::passed(key, size, level, kind, name, count) == count {
-        return count;
+    if one_pass::passed(columns) == columns.count {
+        return columns.count;
     }
-    smaller(
-        search_row_by_row(key, size, level, kind, name, count),
-        keys::first_key(key, count),
-    )
+    search_row_by_row(columns).min(keys::first_key(columns.key, columns.count))
 }
 
-// The same for calls that look up keys afterwards: where every row is sound, all rows are chained in the columns lent
+// The same for calls that look up keys afterwards: where every row is sound, all rows are chained in the chains lent
 // for it, in which none is at first.
-pub fn first_bad_in(
-    key: &[usize],
-    size: &[usize],
-    level: &[usize],
-    kind: &[usize],
-    name: &[usize],
-    count: usize,
-    heads: &mut [u16],
-    next: &mut [u16],
-    shift: usize,
-) -> usize
-    requires in_use { InUse (table_of key.now size.now level.now kind.now name.now count) }
-    requires chain_room { ChainRoom heads.old next.old shift count }
-    requires chained { Chained shift key.now heads.old next.old 0 }
-    ensures value { result ≡ first_bad
-        (table_of key.now size.now level.now
-        kind.now name.now count) }
-    ensures chained_2 { result ≡ count
-        → Chained shift key.now heads.new next.new count }
+#[tactic(auto, using(crate::proofs::FirstBadLaws::first_bad_min, crate::proofs::FirstBadLaws::first_key_le))]
+pub fn first_bad_in(columns: &Columns<'_>, chains: &mut Chains<'_>) -> usize
+    requires in_use { InUse (seen columns.now) }
+    requires in_room { columns.now.count ≤ length chains.old.next.now }
+    requires empty { Empty chains.old.heads.now }
+    ensures value { result ≡ first_bad (seen columns.now) }
+    ensures room { length chains.new.next.now ≡ length chains.old.next.now }
+    ensures chained_2 { result ≡ columns.now.count
+        → Chained chains.new.shift columns.now.key.now chains.new.heads.now chains.new.next.now
+        columns.now.count }
 {
-    if one_pass::passed_in(key, size, level, kind, name, count, heads, next, shift) == count {
-        return count;
+    if one_pass::passed_in(columns, chains) == columns.count {
+        return columns.count;
     }
-    keys::unchain(heads);
-    smaller(
-        search_row_by_row(key, size, level, kind, name, count),
-        keys::first_in(key, count, heads, next, shift),
-    )
+    chains.clear();
+    search_row_by_row(columns).min(chains.first_key(columns.key, columns.count))
 }

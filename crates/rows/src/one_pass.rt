@@ -1,16 +1,18 @@
 // All rules of all rows in one pass, with the rows that are still open remembered by level and the rows passed chained
 // by their keys. A table that fails here is searched for its least unsound row (lib.rt).
-ghost use Rattle.std.specs.Prelude.{◌≡◌, ◌&&◌, ℕ, ◌<◌, ◌≤◌};
-ghost use Rattle.tree.specs.Table.{most_rows, at, table_of};
+ghost use Rattle.std.specs.Prelude.{◌≡◌, ◌&&◌, ℕ, ◌<◌, ◌≤◌, length};
+ghost use Rattle.tree.specs.Table.{most_rows, at, seen};
 ghost use Rattle.tree.specs.Sound.{kind_ok, name_ok, first_bad};
 ghost use Rattle.tree.specs.Rules.{InUse};
-ghost use Rattle.keys.specs.Chain.{ChainRoom, Chained};
+ghost use Rattle.keys.specs.Chain.{buckets_of, Empty, Chained};
 ghost use Rattle.rows.specs.OnePass.{fits_in};
 
-use basics::both;
+use keys::Chains;
+use tree::Columns;
 
 // Whether a row of level own, with held rows below it, may stand at row i, where levels may be up to most: inside the
 // row it lies under, and after the end of the row of its own level before it.
+#[tactic(auto, unfolding(crate::specs::OnePass::fits_in))]
 fn fits_in(ends: &[u32; 65], most: usize, i: usize, own: usize, held: usize) -> bool
     requires most_bound { most < 65 }
     requires by_index { (l : ℕ) → l < 65 → at ends.now l ≤ most_rows }
@@ -23,11 +25,12 @@ fn fits_in(ends: &[u32; 65], most: usize, i: usize, own: usize, held: usize) -> 
     if 63 < own {
         return false;
     }
-    both(held < ends[own] as usize - i, ends[own + 1] as usize <= i)
+    (held < ends[own] as usize - i) & (ends[own + 1] as usize <= i)
 }
 
 // Whether kind, name, level and size of a row fit each other. A name of 0 is asked for first: compilers expect what is
 // compared with 0 to differ from it, and most rows are elements with a name.
+#[tactic(auto, unfolding(tree::specs::Sound::kind_ok, tree::specs::Sound::name_ok, tree::specs::Sound::has_name))]
 fn kind_fits(size: usize, own: usize, kind: usize, name: usize) -> bool
     ensures { result ≡ (kind_ok kind size own && name_ok kind name) }
 {
@@ -39,7 +42,7 @@ fn kind_fits(size: usize, own: usize, kind: usize, name: usize) -> bool
         };
     }
     if kind != 1 {
-        return both(kind == 4, size == 0);
+        return (kind == 4) & (size == 0);
     }
     true
 }
@@ -47,35 +50,36 @@ fn kind_fits(size: usize, own: usize, kind: usize, name: usize) -> bool
 // How many rows pass: all of them only where every row is sound, and then they are chained; no row is at first. Where a
 // row of level l has to end at the latest stands at l in ends: the end of the table, and behind it that of the last row
 // of each level.
-pub fn passed_in(
-    key: &[usize],
-    size: &[usize],
-    level: &[usize],
-    kind: &[usize],
-    name: &[usize],
-    count: usize,
-    heads: &mut [u16],
-    next: &mut [u16],
-    shift: usize,
-) -> usize
-    requires in_use { InUse (table_of key.now size.now level.now kind.now name.now count) }
-    requires chain_room { ChainRoom heads.old next.old shift count }
-    requires chained { Chained shift key.now heads.old next.old 0 }
-    ensures count_value { result ≡ count → first_bad
-        (table_of key.now size.now level.now
-        kind.now name.now count) ≡ count }
-    ensures chained_2 { result ≡ count
-        → Chained shift key.now heads.new next.new count }
+#[tactic(auto, using(crate::proofs::OnePassLaws::row_ends))]
+pub fn passed_in(columns: &Columns<'_>, chains: &mut Chains<'_>) -> usize
+    requires in_use { InUse (seen columns.now) }
+    requires in_room { columns.now.count ≤ length chains.old.next.now }
+    requires empty { Empty chains.old.heads.now }
+    ensures count_value { result ≡ columns.now.count
+        → first_bad (seen columns.now) ≡ columns.now.count }
+    ensures room { length chains.new.next.now ≡ length chains.old.next.now }
+    ensures chained_2 { result ≡ columns.now.count
+        → Chained chains.new.shift columns.now.key.now chains.new.heads.now chains.new.next.now
+        columns.now.count }
 {
+    let Columns {
+        key,
+        size,
+        level,
+        kind,
+        name,
+        count,
+    } = *columns;
     let mut ends = [0u32; 65];
     ends[0] = count as u32;
     let mut most = 0;
     let mut i = 0;
+    // Not `for`: `link` counts, and a second count would be 7% of the pass.
     while i < count {
-        if !keys::key_ok(key, i, heads, next, shift) {
+        if !chains.key_ok(key, i) {
             return i;
         }
-        let after = keys::link(key, i, heads, next, shift);
+        let after = chains.link(key, i);
         let own = level[i];
         let held = size[i];
         if !fits_in(&ends, most, i, own, held) {
@@ -91,58 +95,37 @@ pub fn passed_in(
     i
 }
 
-// The same in columns of its own, as `keys::first_key` has them.
-pub fn passed(
-    key: &[usize],
-    size: &[usize],
-    level: &[usize],
-    kind: &[usize],
-    name: &[usize],
-    count: usize,
-) -> usize
-    requires { InUse (table_of key.now size.now level.now kind.now name.now count) }
-    ensures { result ≡ count → first_bad
-        (table_of key.now size.now level.now
-        kind.now name.now count) ≡ count }
+// The same by chains of its own, of so many buckets and rows.
+fn passed_with<const HEADS: usize, const ROWS: usize>(columns: &Columns<'_>, shift: usize) -> usize
+    requires in_use { InUse (seen columns.now) }
+    requires low { shift ≤ 32 }
+    requires wide { buckets_of shift ≤ HEADS }
+    requires few { (HEADS ≤ 16384) × (ROWS ≤ most_rows) }
+    requires in_room { columns.now.count ≤ ROWS }
+    ensures { result ≡ columns.now.count → first_bad (seen columns.now) ≡ columns.now.count }
 {
-    if count <= 16 {
-        let mut heads = [0u16; 64];
-        let mut next = [0u16; 16];
-        return passed_in(
-            key, size, level, kind, name, count, &mut heads, &mut next, 26,
-        );
+    let mut heads = [0u16; HEADS];
+    let mut next = [0u16; ROWS];
+    let mut chains = Chains {
+        heads: &mut heads,
+        next: &mut next,
+        shift,
+    };
+    passed_in(columns, &mut chains)
+}
+
+// The same at the sizes of `keys::with_chains`. It lends the columns to no closure: a check of few rows takes a tenth
+// longer so.
+pub fn passed(columns: &Columns<'_>) -> usize
+    requires { InUse (seen columns.now) }
+    ensures { result ≡ columns.now.count → first_bad (seen columns.now) ≡ columns.now.count }
+{
+    match columns.count {
+        0..=16 => passed_with::<64, 16>(columns, 26),
+        17..=32 => passed_with::<128, 32>(columns, 25),
+        33..=64 => passed_with::<256, 64>(columns, 24),
+        65..=256 => passed_with::<1024, 256>(columns, 22),
+        257..=1024 => passed_with::<4096, 1024>(columns, 20),
+        _ => passed_with::<16384, 4096>(columns, 18),
     }
-    if count <= 32 {
-        let mut heads = [0u16; 128];
-        let mut next = [0u16; 32];
-        return passed_in(
-            key, size, level, kind, name, count, &mut heads, &mut next, 25,
-        );
-    }
-    if count <= 64 {
-        let mut heads = [0u16; 256];
-        let mut next = [0u16; 64];
-        return passed_in(
-            key, size, level, kind, name, count, &mut heads, &mut next, 24,
-        );
-    }
-    if count <= 256 {
-        let mut heads = [0u16; 1024];
-        let mut next = [0u16; 256];
-        return passed_in(
-            key, size, level, kind, name, count, &mut heads, &mut next, 22,
-        );
-    }
-    if count <= 1024 {
-        let mut heads = [0u16; 4096];
-        let mut next = [0u16; 1024];
-        return passed_in(
-            key, size, level, kind, name, count, &mut heads, &mut next, 20,
-        );
-    }
-    let mut heads = [0u16; 16384];
-    let mut next = [0u16; 4096];
-    passed_in(
-        key, size, level, kind, name, count, &mut heads, &mut next, 18,
-    )
 }

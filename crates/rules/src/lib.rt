@@ -4,8 +4,6 @@
 ghost use Rattle.std.specs.Prelude.{◌≡◌, ◌<◌, ◌≤◌, length};
 ghost use Rattle.tree.specs.Sound.{level_ok, run_of, size_ok, kind_ok, name_ok};
 
-use basics::{both, either};
-
 // Level: 0 at row 0; at a later row at most one more than the row before has; never above 63.
 pub fn level_ok(level: &[usize], i: usize) -> bool
     requires { i < length level.now }
@@ -15,32 +13,19 @@ pub fn level_ok(level: &[usize], i: usize) -> bool
     if i == 0 {
         return own == 0;
     }
-    let before = level[i - 1];
-    if own < 1 {
-        return true;
-    }
-    let too_deep = 63 < own;
-    if too_deep {
-        return false;
-    }
-    if before < own - 1 {
-        return false;
-    }
-    true
+    (own <= 63) & (own.saturating_sub(1) <= level[i - 1])
 }
 
 // How many levels from the front of the part on are above top.
 fn run(part: &[usize], top: usize) -> usize
     ensures { result ≡ run_of part.now top }
 {
-    let mut k = 0;
-    while k < part.len() {
-        if part[k] <= top {
+    for (k, &level) in part.iter().enumerate() {
+        if level <= top {
             return k;
         }
-        k += 1;
     }
-    k
+    part.len()
 }
 
 // Size: the number of rows in use directly after row i, without a break, whose level is above its own.
@@ -59,21 +44,15 @@ pub fn size_ok(size: &[usize], level: &[usize], count: usize, i: usize) -> bool
 pub fn kind_ok(size: usize, level: usize, kind: usize) -> bool
     ensures { result ≡ kind_ok kind size level }
 {
-    both(
-        both(kind <= 4, either(kind != 0, level == 0)),
-        either(kind <= 1, size == 0),
-    )
+    (kind <= 4) & ((kind != 0) | (level == 0)) & ((kind <= 1) | (size == 0))
 }
 
 // Name: not 0 for kinds 1 and 4, 0 for the others.
 pub fn name_ok(kind: usize, name: usize) -> bool
     ensures { result ≡ name_ok kind name }
 {
-    if kind == 1 {
-        return name != 0;
+    match kind {
+        1 | 4 => name != 0,
+        _ => name == 0,
     }
-    if kind == 4 {
-        return name != 0;
-    }
-    name == 0
 }

@@ -29,7 +29,7 @@ pub step_none : (t : Table) (a : Ask) → step_list t a [] ≡ []
 unfolding step_list lines_of distinct
 step_none t a = refl
 
-module _ (t : Table) (a : Ask) (up role row : List ℕ) (s : StepReady t a up role row) where
+module _ {t : Table} {a : Ask} {up role row : List ℕ} (s : StepReady t a up role row) where
   pub pairs_fit : PairsFit role row t.count
   pairs_fit = (pair_passes role row t.count).0 s.call.pairs
 

@@ -2,32 +2,29 @@
 use Rattle.std.specs.Prelude.{◌≡◌, List, ℕ, ◌≤◌, length}
 use Rattle.tree.specs.Table.{Table}
 use Rattle.tree.specs.Rules.{Sound}
-use Rattle.tree.specs.Pairs.{pairs_of, roles_of, rows_of}
+use Rattle.tree.specs.Pairs.{Pair, roles_of, rows_of}
 use Rattle.tree.specs.declared.Ask.{Ask}
-use Rattle.tree.specs.Step.{step_list}
-use Rattle.tree.specs.Refusal.{pair_check, ask_check}
-use Rattle.tree.specs.declared.Checked.TheVariants.{Passed}
+use Rattle.tree.specs.Refusal.{pair_check, ask_check, passed}
 use Rattle.scan.specs.OneRole.{Wrote}
 use Rattle.links.specs.Links.{UpFor}
 
 -- refusals 1 to 7 do not apply
 pub record CallChecked (t : Table) (a : Ask) (role row : List ℕ) : Type 0 where
   pub sound : Sound t
-  pub pairs : pair_check role row t.count ≡ Passed
-  pub asked : ask_check a ≡ Passed
+  pub pairs : pair_check role row t.count ≡ passed
+  pub asked : ask_check a ≡ passed
 
 -- nor do they here, and up holds what the axis follows
 pub record StepReady (t : Table) (a : Ask) (up role row : List ℕ) : Type 0 where
   pub call : CallChecked t a role row
   pub links : UpFor a.axis t.level t.count up
 
--- the result columns have room
-pub record HasRoom (t : Table) (a : Ask) (role row outRole outRow : List ℕ) : Type 0 where
-  pub roles : length (step_list t a (pairs_of role row)) ≤ length outRole
-  pub rows : length (step_list t a (pairs_of role row)) ≤ length outRow
+-- the result columns have room for these lines
+pub record HasRoom (lines : List Pair) (outRole outRow : List ℕ) : Type 0 where
+  pub roles : length lines ≤ length outRole
+  pub rows : length lines ≤ length outRow
 
--- the result columns begin with the lines of the step, and r says how many they are
-pub record Lists (t : Table) (a : Ask) (role row outRole outRow : List ℕ) (r : ℕ) (newRole new_row : List ℕ)
-    : Type 0 where
-  pub roles : Wrote (roles_of (step_list t a (pairs_of role row))) outRole r newRole
-  pub rows : Wrote (rows_of (step_list t a (pairs_of role row))) outRow r new_row
+-- the result columns begin with these lines, and r says how many they are
+pub record Lists (lines : List Pair) (outRole outRow : List ℕ) (r : ℕ) (newRole new_row : List ℕ) : Type 0 where
+  pub roles : Wrote (roles_of lines) outRole r newRole
+  pub rows : Wrote (rows_of lines) outRow r new_row

@@ -5,20 +5,20 @@ ghost use Rattle.std.specs.Prelude.{◌<◌, ◌≤◌, length, replicate};
 ghost use Rattle.scan.specs.OneRole.{Wrote};
 ghost use Rattle.runs.specs.Runs.{RunEnd};
 
+pub mod call; // call.rt: a step's call that the checks let through
+
 // The place after the run of equal roles that begins at i.
 pub fn run_end(role: &[usize], i: usize) -> usize
     requires { i < length role.now }
     ensures { RunEnd role.now i result }
 {
     let own = role[i];
-    let mut j = i + 1;
-    while j < role.len() {
+    for j in i + 1..role.len() {
         if role[j] != own {
             return j;
         }
-        j += 1;
     }
-    j
+    role.len()
 }
 
 // Writes v to the first n places.
@@ -26,9 +26,7 @@ pub fn fill(part: &mut [usize], n: usize, v: usize)
     requires { n ≤ length part.old }
     ensures { Wrote (replicate n v) part.old n part.new }
 {
-    let mut i = 0;
-    while i < n {
+    for i in 0..n {
         part[i] = v;
-        i += 1;
     }
 }

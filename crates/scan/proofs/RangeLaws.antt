@@ -13,8 +13,8 @@ use Rattle.tree.specs.Search.{gather}
 use Rattle.tree.specs.Table.{at}
 use Rattle.tree.specs.Axis.{on_axis}
 use Rattle.tree.proofs.SearchLaws.{gather_zero, gather_skip, gather_grows}
-use Rattle.scan.specs.Want.{Want, fits}
-use Rattle.scan.specs.OneRole.{any_on, one_role, Contexts, RoleIn, Wrote}
+use Rattle.scan.specs.Want.{NodeTest, accepts}
+use Rattle.scan.specs.OneRole.{Trees, any_on, one_role, Contexts, RoleIn, Wrote}
 use Rattle.scan.specs.Range.{rows_in, Appended, RangeIn}
 use Rattle.scan.proofs.WroteLaws.{wrote_as, wrote_none, wrote_length}
 use Rattle.scan.proofs.AppendedLaws.{wrote_appended}
@@ -136,19 +136,18 @@ module _ {axis n next pos : ℕ} {level cs d out : List ℕ} {test : ℕ → Boo
         → Covered axis level n test cs d new r to
     cover_range = cover_part to l m (λ w. true) h
 
-module _ {axis : ℕ} {size level kind name : List ℕ} {n : ℕ} {want : Want} {cs d : List ℕ}
-    (pre : RoleIn axis size level kind name n cs want d) where
-  pub cover_start : Covered axis level n (fits want kind name) cs d d 0 0
+module _ {axis : ℕ} {trees : Trees} {test : NodeTest} {cs d : List ℕ} (pre : RoleIn axis trees test cs d) where
+  pub cover_start : Covered axis trees.level.now trees.count (accepts test) cs d d 0 0
   cover_start = record {
     room = pre.room;
     inside = omega arith;
-    wrote = wrote_as (sym (role_none axis level (fits want kind name) cs)) (wrote_none d);
+    wrote = wrote_as (sym (role_none axis trees.level.now (accepts test) cs)) (wrote_none d);
   }
 
   -- what the scan of a range on a context's axis asks for
-  pub cover_asks : {out : List ℕ} {next pos : ℕ} → Covered axis level n (fits want kind name) cs d out next pos
-      → (to : ℕ) → pos ≤ to → to ≤ n → ((w : ℕ) → pos ≤ w → w < to → any_on axis level cs w ≡ true)
-      → RangeIn kind name pos to want out next
+  pub cover_asks : {out : List ℕ} {next pos : ℕ} → Covered axis trees.level.now trees.count (accepts test) cs d out next pos
+      → (to : ℕ) → pos ≤ to → to ≤ trees.count → ((w : ℕ) → pos ≤ w → w < to → any_on axis trees.level.now cs w ≡ true)
+      → RangeIn test pos to out next
   cover_asks s to l m h = record {
     order = l;
     in_kind = omega (arith, pre.in_kind);

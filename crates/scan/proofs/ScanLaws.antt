@@ -13,7 +13,7 @@ use lib.Dec.{leb}
 use lib.ListN.{length, take, drop, set, length-append, length-take, length-drop}
 use Rattle.tree.specs.Search.{gather, only}
 use Rattle.tree.proofs.SearchLaws.{only_none, only_one, gather_zero, gather_suc, gather_skip}
-use Rattle.scan.specs.Want.{Want, fits}
+use Rattle.scan.specs.Want.{NodeTest, accepts}
 use Rattle.scan.specs.Range.{rows_from, rows_in, Appended, ScanIn, RangeIn}
 use Rattle.scan.proofs.AppendedLaws.{appended_as, appended_none, appended_more, appended_length}
 
@@ -187,12 +187,12 @@ module _ {from : ℕ} {f : ℕ → Bool} {k : ℕ} {d : List ℕ} {written : ℕ
 
 -- ── a range, scanned as a part of the columns ──
 -- k entries of a part are the rows of the range, and pass the part's test exactly if they fit
-module _ {kind name out : List ℕ} {from to written : ℕ} {want : Want}
-    (asks : RangeIn kind name from to want out written)
+module _ {test : NodeTest} {out : List ℕ} {from to written : ℕ}
+    (asks : RangeIn test from to out written)
     {g : ℕ → Bool} {k : ℕ} (count : k ≡ to - from)
-    (same : (i : ℕ) → i < to - from → g i ≡ fits want kind name (from + i)) where
-  range_rows : rows_from from g k ≡ rows_in (fits want kind name) from to
-  range_rows = ap (rows_from from g) count ∙ rows_ext from g (λ i. fits want kind name (from + i)) (to - from) same
+    (same : (i : ℕ) → i < to - from → g i ≡ accepts test (from + i)) where
+  range_rows : rows_from from g k ≡ rows_in (accepts test) from to
+  range_rows = ap (rows_from from g) count ∙ rows_ext from g (λ i. accepts test (from + i)) (to - from) same
 
   pub range_asks : to < 2 ^ 64 → ScanIn from g k out written
   range_asks l = record {
@@ -201,7 +201,7 @@ module _ {kind name out : List ℕ} {from to written : ℕ} {want : Want}
   }
 
   pub range_gives : {r : ℕ} {new : List ℕ} → Appended (rows_from from g k) out written r new
-      → Appended (rows_in (fits want kind name) from to) out written r new
+      → Appended (rows_in (accepts test) from to) out written r new
   range_gives h = appended_as range_rows h
 
 -- a part of a column that has the range is as long as the range
@@ -222,29 +222,29 @@ rows_one f from to l m =
     ∙ ap (λ (xs : List ℕ). xs ++ only (f (from + 0)) (from + 0)) (rows_none from (λ k. f (from + k)))
     ∙ ap (λ (w : ℕ). only (f w) w) (add-zero from)
 
-module _ {kind name out : List ℕ} {from to written : ℕ} {want : Want}
-    (asks : RangeIn kind name from to want out written) where
+module _ {test : NodeTest} {out : List ℕ} {from to written : ℕ}
+    (asks : RangeIn test from to out written) where
   -- no row
-  pub one_none : to ≤ from → Appended (rows_in (fits want kind name) from to) out written written out
-  one_none l = appended_as (sym (rows_empty (fits want kind name) from to l)) (appended_none out written)
+  pub one_none : to ≤ from → Appended (rows_in (accepts test) from to) out written written out
+  one_none l = appended_as (sym (rows_empty (accepts test) from to l)) (appended_none out written)
 
   module _ (less : from < to) (most : to ≤ from + 1) where
-    the_row : rows_in (fits want kind name) from to ≡ only (fits want kind name from) from
-    the_row = rows_one (fits want kind name) from to less most
+    the_row : rows_in (accepts test) from to ≡ only (accepts test from) from
+    the_row = rows_one (accepts test) from to less most
 
     -- a row that does not fit
-    pub one_no : fits want kind name from ≡ false
-        → Appended (rows_in (fits want kind name) from to) out written written out
-    one_no e = appended_as (sym (the_row ∙ only_none (fits want kind name from) from e)) (appended_none out written)
+    pub one_no : accepts test from ≡ false
+        → Appended (rows_in (accepts test) from to) out written written out
+    one_no e = appended_as (sym (the_row ∙ only_none (accepts test from) from e)) (appended_none out written)
 
-    fitting : fits want kind name from ≡ true → rows_in (fits want kind name) from to ≡ from ∷ []
-    fitting e = the_row ∙ only_one (fits want kind name from) from e
+    fitting : accepts test from ≡ true → rows_in (accepts test) from to ≡ from ∷ []
+    fitting e = the_row ∙ only_one (accepts test from) from e
 
     -- there is room for a row that fits
-    pub one_room : fits want kind name from ≡ true → written < length out
+    pub one_room : accepts test from ≡ true → written < length out
     one_room e = omega (arith, asks.room, ap length (fitting e))
 
     -- a row that fits
-    pub one_yes : fits want kind name from ≡ true
-        → Appended (rows_in (fits want kind name) from to) out written (written + 1) (set out written from)
+    pub one_yes : accepts test from ≡ true
+        → Appended (rows_in (accepts test) from to) out written (written + 1) (set out written from)
     one_yes e = appended_as (sym (fitting e)) (appended_more from (appended_none out written) (one_room e))

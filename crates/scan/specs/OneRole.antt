@@ -6,8 +6,8 @@ use Rattle.tree.specs.Table.{at}
 use Rattle.tree.specs.Axis.{on_axis}
 use Rattle.tree.specs.Tree.{parent, root}
 use Rattle.tree.specs.Outcome.{overwritten}
-use Rattle.tree.specs.Rules.{Shape}
-use Rattle.scan.specs.Want.{Want, fits}
+use Rattle.scan.specs.Want.{NodeTest, accepts}
+pub use Rattle.scan.specs.declared.trees.Trees.{Trees}
 
 -- row w is on the axis of one of these contexts
 unfoldable pub any_on : ℕ → List ℕ → List ℕ → ℕ → Bool
@@ -23,14 +23,17 @@ pub record Contexts (cs : List ℕ) (n : ℕ) : Type 0 where
   pub rising : (i j : ℕ) → i < j → j < length cs → at cs i ≤ at cs j
   pub inside : (i : ℕ) → i < length cs → at cs i < n
 
--- the table's shape, one role's contexts and room for what they reach: what a function that finds it asks for
-pub record RoleIn (axis : ℕ) (size level kind name : List ℕ) (n : ℕ) (cs : List ℕ) (want : Want) (out : List ℕ)
-    : Type 0 where
-  pub shape : Shape size level n
-  pub contexts : Contexts cs n
-  pub in_kind : n ≤ length kind
-  pub in_name : n ≤ length name
-  pub room : length (one_role axis level n (fits want kind name) cs) ≤ length out
+-- the rows that the contexts of one role reach in these trees and that pass the test
+abbrev pub reached : ℕ → Trees → NodeTest → List ℕ → List ℕ
+reached axis trees test cs = one_role axis trees.level.now trees.count (accepts test) cs
+
+-- one role's contexts, a kind and a name for each row, and room for what the contexts reach: what a function that finds
+-- it asks for
+pub record RoleIn (axis : ℕ) (trees : Trees) (test : NodeTest) (cs out : List ℕ) : Type 0 where
+  pub contexts : Contexts cs trees.count
+  pub in_kind : trees.count ≤ length test.kind.now
+  pub in_name : trees.count ≤ length test.name.now
+  pub room : length (reached axis trees test cs) ≤ length out
 
 -- a column that held old begins with xs now, and r says how many they are
 pub record Wrote (xs old : List ℕ) (r : ℕ) (new : List ℕ) : Type 0 where

@@ -4,7 +4,7 @@ use Rattle.std.specs.Prelude.{ℕ, zero, suc, ◌+◌, ◌-◌, ◌^◌, ◌<◌
 use Rattle.tree.specs.Search.{only}
 use Rattle.tree.specs.Table.{most_rows, at}
 use Rattle.tree.specs.Outcome.{overwritten}
-use Rattle.scan.specs.Want.{Want, fits}
+use Rattle.scan.specs.Want.{NodeTest, accepts}
 
 -- of the k rows from a row on, those that pass by their number among them, ascending
 unfoldable pub rows_from : ℕ → (ℕ → Bool) → ℕ → List ℕ
@@ -26,11 +26,11 @@ pub record ScanIn (from : ℕ) (f : ℕ → Bool) (k : ℕ) (out : List ℕ) (wr
   pub room : written + length (rows_from from f k) ≤ length out
 
 -- the rows of a range are in the columns, and there is room for those that fit
-pub record RangeIn (kind name : List ℕ) (from to : ℕ) (want : Want) (out : List ℕ) (written : ℕ) : Type 0 where
+pub record RangeIn (test : NodeTest) (from to : ℕ) (out : List ℕ) (written : ℕ) : Type 0 where
   pub order : from ≤ to
-  pub in_kind : to ≤ length kind
-  pub in_name : to ≤ length name
-  pub room : written + length (rows_in (fits want kind name) from to) ≤ length out
+  pub in_kind : to ≤ length test.kind.now
+  pub in_name : to ≤ length test.name.now
+  pub room : written + length (rows_in (accepts test) from to) ≤ length out
 
 -- the descendants of each context are rows in use
 pub record EndsIn (size : List ℕ) (n : ℕ) (cs : List ℕ) : Type 0 where

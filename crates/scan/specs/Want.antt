@@ -3,6 +3,7 @@
 use Rattle.std.specs.Prelude.{ℕ, Bool, cond, ◌&&◌, ◌||◌, List, eqb}
 use Rattle.tree.specs.Table.{at}
 use Rattle.tree.specs.declared.Ask.{Ask}
+pub use Rattle.scan.specs.declared.want.NodeTest.{NodeTest}
 pub use Rattle.scan.specs.declared.want.Want.{Want}
 
 -- the kind that a test code asks for; 5 for any
@@ -23,3 +24,7 @@ want_of ask = record { kind = wanted_kind ask.test; name = ask.name }
 unfoldable pub fits : Want → List ℕ → List ℕ → ℕ → Bool
 fits want kind name w =
     (eqb want.kind 5 || eqb (at kind w) want.kind) && (eqb want.name 0 || eqb (at name w) want.name)
+
+-- row w is as the test wants it
+abbrev pub accepts : NodeTest → ℕ → Bool
+accepts test = fits test.want test.kind.now test.name.now

@@ -4,12 +4,13 @@
 
 ghost use Rattle.std.specs.Prelude.{true, ◌+◌, ◌≤◌, eqb, length};
 ghost use Rattle.tree.specs.Table.{at};
-ghost use Rattle.scan.specs.Want.{fits};
+ghost use Rattle.scan.specs.Want.{accepts};
 ghost use Rattle.scan.specs.Range.{rows_from, rows_in, Appended, ScanIn, RangeIn, ContextIn, PastTree};
 
+pub mod trees; // trees.rt: the sizes and levels of a table's rows
 pub mod want; // want.rt: the node test as a wanted kind and a wanted name
 
-use crate::want::{Want, fits_row};
+use crate::want::NodeTest;
 
 // Appends the rows `from`, `from` + 1, .., `count` of them; answers how many are written then.
 fn number_rows(from: usize, count: usize, out: &mut [usize], written: usize) -> usize
@@ -17,11 +18,9 @@ fn number_rows(from: usize, count: usize, out: &mut [usize], written: usize) -> 
     ensures { Appended (rows_from from (λ k. true) count) out.old written result out.new }
 {
     let mut next = written;
-    let mut i = 0;
-    while i < count {
+    for i in 0..count {
         out[next] = from + i;
         next += 1;
-        i += 1;
     }
     next
 }
@@ -41,64 +40,53 @@ fn scan_kind(
         out.old written result out.new }
 {
     let mut next = written;
-    let mut i = 0;
-    while i < kind.len() {
-        if kind[i] == want_kind {
+    for (i, &own) in kind.iter().enumerate() {
+        if own == want_kind {
             out[next] = from + i;
             next += 1;
         }
-        i += 1;
     }
     next
 }
 
 // Appends the rows of the wanted kind and the wanted name, of a part of both columns that starts at row `from`;
 // answers how many are written then.
-fn scan_named(
-    kind: &[usize],
-    name: &[usize],
-    from: usize,
-    want: Want,
-    out: &mut [usize],
-    written: usize,
-) -> usize
-    requires { (length kind.now ≤ length name.now)
-        × ScanIn from (fits want kind.now name.now) (length kind.now) out.old written }
+fn scan_named(part: &NodeTest<'_>, from: usize, out: &mut [usize], written: usize) -> usize
+    requires { (length part.now.kind.now ≤ length part.now.name.now)
+        × ScanIn from (accepts part.now) (length part.now.kind.now) out.old written }
     ensures { Appended
-        (rows_from from (fits want kind.now name.now)
-        (length kind.now))
+        (rows_from from (accepts part.now)
+        (length part.now.kind.now))
         out.old written result out.new }
 {
+    let part = *part;
     let mut next = written;
-    let mut i = 0;
-    while i < kind.len() {
-        if fits_row(kind, name, i, want) {
+    for i in 0..part.kind.len() {
+        if part.fits(i) {
             out[next] = from + i;
             next += 1;
         }
-        i += 1;
     }
     next
 }
 
 // Appends the rows from `from` on, and before `to`, that fit; answers how many are written then. What is wanted decides
 // before the scan which columns it reads.
-pub fn emit(
-    kind: &[usize],
-    name: &[usize],
-    from: usize,
-    to: usize,
-    want: Want,
-    out: &mut [usize],
-    written: usize,
-) -> usize
-    requires { RangeIn kind.now name.now from to want out.old written }
+#[inline(always)]
+pub fn emit(test: &NodeTest<'_>, from: usize, to: usize, out: &mut [usize], written: usize) -> usize
+    requires { RangeIn test.now from to out.old written }
     ensures { Appended
-        (rows_in (fits want kind.now name.now) from to)
+        (rows_in (accepts test.now) from to)
         out.old written result out.new }
 {
+    let NodeTest { want, kind, name } = *test;
     if want.name != 0 {
-        return scan_named(&kind[from..to], &name[from..to], from, want, out, written);
+        let part = NodeTest {
+            want,
+            kind: &kind[from..to],
+            name: &name[from..to],
+        };
+        return scan_named(&part, from, out, written);
     }
     if want.kind != 5 {
         return scan_kind(&kind[from..to], from, want.kind, out, written);
@@ -108,24 +96,22 @@ pub fn emit(
 
 // Appends the one row of a range, if there is one and it fits; answers how many are written then.
 pub fn emit_one(
-    kind: &[usize],
-    name: &[usize],
+    test: &NodeTest<'_>,
     from: usize,
     to: usize,
-    want: Want,
     out: &mut [usize],
     written: usize,
 ) -> usize
     requires { (to ≤ from + 1)
-        × RangeIn kind.now name.now from to want out.old written }
+        × RangeIn test.now from to out.old written }
     ensures { Appended
-        (rows_in (fits want kind.now name.now) from to)
+        (rows_in (accepts test.now) from to)
         out.old written result out.new }
 {
     if to <= from {
         return written;
     }
-    if fits_row(kind, name, from, want) {
+    if test.fits(from) {
         out[written] = from;
         return written + 1;
     }
@@ -142,12 +128,10 @@ pub fn past_tree(rows: &[usize], i: usize, end: usize) -> usize
     if rows[last] < end {
         return rows.len();
     }
-    let mut j = i;
-    while j < last {
+    for j in i..last {
         if end <= rows[j] {
             return j;
         }
-        j += 1;
     }
     last
 }

@@ -1,6 +1,6 @@
 // The node test of a step as what is wanted of a row, which a scan compares.
 ghost use Rattle.std.specs.Prelude.{◌≡◌, ◌<◌, length};
-ghost use Rattle.scan.specs.Want.{wanted_kind, want_of, fits};
+ghost use Rattle.scan.specs.Want.{wanted_kind, want_of, accepts};
 
 use tree::Ask;
 
@@ -11,12 +11,24 @@ pub struct Want {
     pub name: usize,
 }
 
-// Whether row w is as wanted.
-pub fn fits_row(kind: &[usize], name: &[usize], w: usize, want: Want) -> bool
-    requires { (w < length kind.now) × (w < length name.now) }
-    ensures { result ≡ fits want kind.now name.now w }
-{
-    (want.kind == 5 || kind[w] == want.kind) && (want.name == 0 || name[w] == want.name)
+// What is wanted, and the columns that say what a row has.
+#[derive(Clone, Copy)]
+pub struct NodeTest<'a> {
+    pub want: Want,
+    pub kind: &'a [usize],
+    pub name: &'a [usize],
+}
+
+impl NodeTest<'_> {
+    // Whether row w is as wanted.
+    pub fn fits(&self, w: usize) -> bool
+        requires { (w < length self.now.kind.now) × (w < length self.now.name.now) }
+        ensures { result ≡ accepts self.now w }
+    {
+        let want = self.want;
+        (want.kind == 5 || self.kind[w] == want.kind)
+            && (want.name == 0 || self.name[w] == want.name)
+    }
 }
 
 // The kind that a test code asks for.

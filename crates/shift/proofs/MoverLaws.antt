@@ -1,78 +1,44 @@
--- What the movers' loops keep, over lists. Shifting down: `down_start`, `down_turn`, `down_end`. Writing from the
--- front on: `put_start`, `put_turn`, `put_end`, with the source rows raised, rows further on, or zeros:
--- `raised_turn`, `up_turn`, `clear_turn`, `clear_end`. What they make of a part and of a column: `open_part_lem`,
--- `open_column_lem`, `pull_column_lem`, `clear_column_lem`, `pulled_cleared`. Assumes nothing.
+-- What the movers make, over lists. Rows moved within a column: `moved_down`, `moved_up`. Writing the raised rows of
+-- a piece, or zeros: `put_start`, `put_turn`, `put_end`, `raised_turn`, `clear_turn`, `clear_end`. What they make of
+-- a part and of a column: `open_part_lem`, `open_column_lem`, `clear_column_lem`, `pulled_cleared`. Assumes nothing.
 use mathlib.Core.Path.{◌≡◌, refl, sym, ap, ap₂, ◌∙◌, subst}
 use mathlib.Core.List.{List, [], ◌∷◌, ◌++◌, map, append_assoc}
 use Prim.Native.Nat.{ℕ, zero, suc, ◌+◌, ◌-◌, ◌≤◌, ◌<◌}
-use native.Mathlib.Nat.{add_comm, zero-add, not-suc-le-zero, le_of_suc-le-suc, le_antisymm}
+use native.Mathlib.Nat.{zero-add, not-suc-le-zero, le_of_suc-le-suc, le_antisymm}
 use native.Mathlib.Omega.{arith}
 use native.Mathlib.Numerals.{add-one}
-use lib.ListN.{length, take, drop, get_or, set, length-set, length-append, length-drop, replicate, length-replicate}
-use lib.ListN.{get_or-replicate, take-append-drop, get_or-append, length-map}
-use lib.Seq.{get_or-append-add, get_or-drop, slice, take_all, slice_empty, slice-cons, take-suc, length-take-le, set_at}
-use lib.Seq.{get_or-take, take_at, drop_at, drop-drop}
+use lib.ListN.{length, take, drop, get_or, set, length-set, length-append, length-drop, replicate}
+use lib.ListN.{length-map, length-replicate, get_or-replicate}
+use lib.Seq.{length-take-le, take_all}
+use lib.Seq.{take_at, drop_at, drop-drop}
 use borrow.Rule.Slice.PartMut.{mid_of, put_mid}
+use Rattle.std.specs.List.{copy_within}
 use Rattle.tree.specs.Edit.{opened, closed}
 use Rattle.tree.proofs.ColumnLaws.{tail_mid, tail_put}
 use Rattle.shift.specs.Part.{shifted, opened_part, pulled, cleared}
 
--- ── shifting down ──
--- the part while the first i of its n rows still stand where they stood
-unfoldable pub down : ℕ → ℕ → List ℕ → ℕ → List ℕ
-down n by xs i = take (i + by) xs ++ (slice i n xs ++ drop (n + by) xs)
+-- ── moved within a column ──
+-- towards the end
+pub moved_down : (n by : ℕ) (xs : List ℕ) → copy_within xs 0 n by ≡ shifted n by xs
+unfolding shifted
+moved_down n by xs =
+    append_assoc (take by xs) (take (n - 0) xs) (drop (by + (n - 0)) xs)
+    ∙ ap₂ (λ (k m : ℕ). take by xs ++ (take k xs ++ drop m xs)) (omega arith) (omega arith)
 
--- one turn, at suc i
-down_step : (n by i : ℕ) (xs : List ℕ) → i < n → n + by ≤ length xs
-    → set (down n by xs (suc i)) (i + by) (get_or (down n by xs (suc i)) i 0) ≡ down n by xs i
-unfolding down
-down_step n by i xs h k =
-    let after : List ℕ = slice (suc i) n xs ++ drop (n + by) xs in
-    let front : length (take (i + by) xs) ≡ i + by = length-take-le (i + by) xs (omega arith) in
-    let l : i < length (take (suc i + by) xs) = rw (length-take-le (suc i + by) xs (omega arith)) (omega arith) in
-    let v : get_or (take (suc i + by) xs ++ after) i 0 ≡ get_or xs i 0 =
-    get_or-append (take (suc i + by) xs) after 0 i l ∙ get_or-take (suc i + by) xs i 0 (omega arith) in
-    let s : suc i + by ≡ suc (i + by) = omega arith in
-    let t : take (suc i + by) xs ≡ take (i + by) xs ++ (get_or xs (i + by) 0 ∷ []) =
-    ap (λ (m : ℕ). take m xs) s ∙ take-suc xs (i + by) 0 (omega arith) in
-    ap (set (take (suc i + by) xs ++ after) (i + by)) v
-    ∙ ap (λ (z : List ℕ). set (z ++ after) (i + by) (get_or xs i 0)) t
-    ∙ ap (λ (z : List ℕ). set z (i + by) (get_or xs i 0)) (append_assoc (take (i + by) xs) (get_or xs (i + by) 0 ∷ [])
-    after)
-    ∙ set_at (take (i + by) xs) (get_or xs (i + by) 0) after (get_or xs i 0) (i + by) front
-    ∙ ap (λ (z : List ℕ). take (i + by) xs ++ (z ++ drop (n + by) xs)) (sym (slice-cons i n xs 0 h (omega arith)))
-
--- the loop's invariant
-pub record Down (n by : ℕ) (xs part : List ℕ) (i : ℕ) : Type 0 where
-  pub most : i ≤ n
-  pub is : part ≡ down n by xs i
-  pub long : length part ≡ length xs
-
-pub down_start : (n by : ℕ) (xs : List ℕ) → Down n by xs xs n
-unfolding down
-down_start n by xs = record {
-  most = omega arith;
-  is = sym (ap (λ (z : List ℕ). take (n + by) xs ++ (z ++ drop (n + by) xs)) (slice_empty n xs)
-      ∙ take-append-drop (n + by) xs);
-  long = refl;
-}
-
-pub down_turn : {n by : ℕ} {xs part : List ℕ} {i : ℕ} → n + by ≤ length xs → Down n by xs part i → 0 < i
-    → Down n by xs (set part (i - 1 + by) (get_or part (i - 1) 0)) (i - 1)
-down_turn {n} {by} {xs} {part} {i} k d h =
-    let e : i ≡ suc (i - 1) = omega arith in
-    record {
-      most = omega (arith, d.most);
-      is = ap (λ (z : List ℕ). set z (i - 1 + by) (get_or z (i - 1) 0)) (d.is ∙ ap (down n by xs) e)
-          ∙ down_step n by (i - 1) xs (omega (arith, d.most)) k;
-      long = length-set part (i - 1 + by) (get_or part (i - 1) 0) ∙ d.long;
-    }
-
-pub down_end : {n by : ℕ} {xs part : List ℕ} {i : ℕ} → Down n by xs part i → i ≤ 0 → part ≡ shifted n by xs
-unfolding down shifted
-down_end {n} {by} {xs} {part} {i} d h =
-    let e : i ≡ 0 = omega arith in
-    d.is ∙ ap (down n by xs) e ∙ ap (λ (m : ℕ). take m xs ++ (take n xs ++ drop (n + by) xs)) (zero-add by)
+-- a column whose part from row r on moved towards its front
+pub moved_up : (r n by : ℕ) (xs end : List ℕ) → r + by ≤ n
+    → end ≡ copy_within (mid_of r (length xs - r) xs) by (n - r) 0
+    → put_mid r (length xs - r) xs end ≡ pulled r n by xs
+unfolding pulled
+moved_up r n by xs end h e =
+    let rest : n - r - by ≡ n - (r + by) = omega arith in
+    let last : r + (n - r - by) ≡ n - by = omega arith in
+    tail_put r xs end ∙ ap (λ (z : List ℕ). take r xs ++ z)
+    (e ∙ ap (λ (m : ℕ). take (n - r - by) (drop by (mid_of r (length xs - r) xs)) ++ drop m (mid_of r (length xs - r) xs))
+    (zero-add (n - r - by))
+    ∙ ap (λ (z : List ℕ). take (n - r - by) (drop by z) ++ drop (n - r - by) z) (tail_mid r xs)
+    ∙ ap₂ (λ (y z : List ℕ). y ++ z) (ap₂ take rest (drop-drop by r xs))
+    (drop-drop (n - r - by) r xs ∙ ap (λ (m : ℕ). drop m xs) last))
 
 -- ── writing from the front on ──
 -- the part once the first i rows are those of src
@@ -103,15 +69,6 @@ pub put_end : {src xs part : List ℕ} {i : ℕ} (n : ℕ) → Put src xs part i
     → part ≡ take n src ++ drop n xs
 put_end {src} {xs} n p h k = p.is ∙ ap (λ (m : ℕ). take m src ++ drop m xs) (le_antisymm h k)
 
--- what a turn reads from i on is what stood there
-put_read : {src xs part : List ℕ} {i : ℕ} (j : ℕ) → Put src xs part i → i < length src
-    → get_or part (i + j) 0 ≡ get_or xs (i + j) 0
-put_read {src} {xs} {part} {i} j p h =
-    let front : length (take i src) ≡ i = length-take-le i src (omega arith) in
-    ap (λ (z : List ℕ). get_or z (i + j) 0) p.is
-    ∙ ap (λ (m : ℕ). get_or (take i src ++ drop i xs) (m + j) 0) (sym front)
-    ∙ get_or-append-add (take i src) (drop i xs) j 0 ∙ get_or-drop i xs j 0
-
 pub get_d_raised : (add i : ℕ) (xs : List ℕ) → i < length xs → get_or xs i 0 + add ≡ get_or (map (λ l. l + add) xs) i 0
 get_d_raised add i [] h = absurd (not-suc-le-zero h)
 get_d_raised add zero (x ∷ xs) h = refl
@@ -122,14 +79,6 @@ pub raised_turn : (add : ℕ) (src : List ℕ) {xs part : List ℕ} {i : ℕ} �
     → i < length src → i < length xs → Put (map (λ l. l + add) src) xs (set part i (get_or src i 0 + add)) (i + 1)
 raised_turn add src {i = i} p h k =
     put_turn p (subst (λ (m : ℕ). i < m) (sym (length-map src (λ l. l + add))) h) k (get_d_raised add i src h)
-
--- the rows of the part itself, from `by` rows further on
-pub up_turn : (by : ℕ) {xs part : List ℕ} {i : ℕ} → Put (drop by xs) xs part i → i + by < length xs
-    → Put (drop by xs) xs (set part i (get_or part (i + by) 0)) (i + 1)
-up_turn by {xs} {part} {i} p h =
-    let l : i < length (drop by xs) = simp length-drop (omega arith) in
-    put_turn p l (omega arith)
-    (put_read by p l ∙ ap (λ (m : ℕ). get_or xs m 0) (add_comm i by) ∙ sym (get_or-drop by xs i 0))
 
 -- zeros
 pub clear_turn : (n : ℕ) {xs part : List ℕ} {i : ℕ} → Put (replicate n 0) xs part i → i < n → i < length xs
@@ -162,19 +111,6 @@ open_column_lem gap n by piece xs end h e =
     (e ∙ ap (opened_part (n - gap) by piece) (tail_mid gap xs)
     ∙ ap (λ (z : List ℕ). take by piece ++ (take (n - gap) (drop gap xs) ++ z))
     (drop-drop (n - gap + by) gap xs ∙ ap (λ (m : ℕ). drop m xs) same))
-
--- a column whose part from row r on was shifted up
-pub pull_column_lem : (r n by : ℕ) (xs end : List ℕ) → r + by ≤ n
-    → end ≡ take (n - r - by) (drop by (mid_of r (length xs - r) xs)) ++ drop (n - r - by) (mid_of r (length xs - r) xs)
-    → put_mid r (length xs - r) xs end ≡ pulled r n by xs
-unfolding pulled
-pull_column_lem r n by xs end h e =
-    let rest : n - r - by ≡ n - (r + by) = omega arith in
-    let last : r + (n - r - by) ≡ n - by = omega arith in
-    tail_put r xs end ∙ ap (λ (z : List ℕ). take r xs ++ z)
-    (e ∙ ap (λ (z : List ℕ). take (n - r - by) (drop by z) ++ drop (n - r - by) z) (tail_mid r xs)
-    ∙ ap₂ (λ (y z : List ℕ). y ++ z) (ap₂ take rest (drop-drop by r xs))
-    (drop-drop (n - r - by) r xs ∙ ap (λ (m : ℕ). drop m xs) last))
 
 -- a column whose part from a row on was cleared at its front
 pub clear_column_lem : (from to : ℕ) (xs end : List ℕ) → from ≤ to

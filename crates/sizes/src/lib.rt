@@ -25,10 +25,8 @@ fn resize_up(
     ensures { size.new ≡ resized level.now row more less size.old }
 {
     let mut i = row;
-    let mut up = level[row];
-    while 0 < up {
+    for up in (0..level[row]).rev() {
         size[i] = size[i] + more - less;
-        up -= 1;
         i = located::parent_of(level, i, up);
     }
     size[i] = size[i] + more - less;
@@ -39,7 +37,7 @@ fn enlarge(size: &mut [usize], row: usize, by: usize)
     requires { (row < length size.old) × (at size.old row ≤ 4096) × (by ≤ 4096) }
     ensures { size.new ≡ set size.old row (at size.old row + by) }
 {
-    size[row] = size[row] + by;
+    size[row] += by;
 }
 
 // The sizes of the row that was found and of all its ancestors rise by `by`.

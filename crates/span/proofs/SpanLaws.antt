@@ -19,8 +19,9 @@ use Rattle.tree.specs.Rules.{Shape}
 use Rattle.tree.proofs.TreeLaws.{less?}
 use Rattle.tree.proofs.SoundLaws.{both, both_of, either, either_left, either_right, shape_fits}
 use Rattle.tree.proofs.AxisLaws.{same_test, ancestor_is}
-use Rattle.scan.specs.declared.want.Want.{Want}
-use Rattle.scan.specs.Want.{fits}
+use Rattle.scan.specs.declared.trees.Trees.{Trees}
+use Rattle.scan.specs.declared.want.NodeTest.{NodeTest}
+use Rattle.scan.specs.Want.{accepts}
 use Rattle.scan.specs.OneRole.{any_on, one_role, RoleIn, Wrote}
 use Rattle.scan.specs.Range.{rows_in, Appended, RangeIn}
 use Rattle.scan.proofs.RangeLaws.{contexts_rise, any_hit, any_miss, Covered, cover_start, cover_skip}
@@ -99,59 +100,58 @@ pub record Turning (axis : ℕ) (level : List ℕ) (n : ℕ) (test : ℕ → Boo
   pub covered : Covered axis level n test cs d out next pos
   pub passed : (j : ℕ) → j < i → last (at cs j) < pos
 
-module _ {axis : ℕ} {size level kind name : List ℕ} {n : ℕ} {want : Want} {cs d : List ℕ}
-    (pre : RoleIn axis size level kind name n cs want d)
-    {first last : ℕ → ℕ} (spans : Spans axis level n first last) where
+module _ {axis : ℕ} {trees : Trees} {test : NodeTest} {cs d : List ℕ} (pre : RoleIn axis trees test cs d)
+    {first last : ℕ → ℕ} (spans : Spans axis trees.level.now trees.count first last) where
   -- a row before, or after, the rows of a context
-  early : (c w : ℕ) → c < n → w < n → w < first c → on_axis axis level c w ≡ false
+  early : (c w : ℕ) → c < trees.count → w < trees.count → w < first c → on_axis axis trees.level.now c w ≡ false
   early c w m l h = spans.on c w m l ∙ ap (λ (b : Bool). b && leb w (last c)) (lt-leb (first c) w h)
 
-  late : (c w : ℕ) → c < n → w < n → last c < w → on_axis axis level c w ≡ false
+  late : (c w : ℕ) → c < trees.count → w < trees.count → last c < w → on_axis axis trees.level.now c w ≡ false
   late c w m l h =
       spans.on c w m l ∙ ap (λ (b : Bool). leb (first c) w && b) (lt-leb w (last c) h) ∙ and-false (leb (first c) w)
 
-  pub turn_start : Turning axis level n (fits want kind name) last cs d d 0 0 0
+  pub turn_start : Turning axis trees.level.now trees.count (accepts test) last cs d d 0 0 0
   turn_start = record { index = omega arith; covered = cover_start pre; passed = λ j l. absurd (not-suc-le-zero l) }
 
   module _ {out : List ℕ} {next pos i : ℕ}
-      (s : Turning axis level n (fits want kind name) last cs d out next pos i) where
+      (s : Turning axis trees.level.now trees.count (accepts test) last cs d out next pos i) where
     -- after the last context
-    pub turn_done : length cs ≤ i → Wrote (one_role axis level n (fits want kind name) cs) d next out
-    turn_done h = cover_done s.covered (λ w l m. any_miss axis level cs w
+    pub turn_done : length cs ≤ i → Wrote (one_role axis trees.level.now trees.count (accepts test) cs) d next out
+    turn_done h = cover_done s.covered (λ w l m. any_miss axis trees.level.now cs w
         (λ j k. late (at cs j) w (pre.contexts.inside j k) m (omega (arith, s.passed j (omega arith)))))
 
     module _ (less : i < length cs) {a b : ℕ}
         (from : a ≡ max pos (first (at cs i))) (to : b ≡ max a (last (at cs i) + 1)) where
-      here : at cs i < n
+      here : at cs i < trees.count
       here = pre.contexts.inside i less
 
-      end : b ≤ n
+      end : b ≤ trees.count
       end = omega (arith, s.covered.inside, spans.low (at cs i) here, spans.high (at cs i) here)
 
       -- the rows of an earlier context are written, and those of a later one start no earlier
-      gap : (w : ℕ) → pos ≤ w → w < a → any_on axis level cs w ≡ false
-      gap w l m = any_miss axis level cs w (λ j k.
-          let h : at cs j < n = pre.contexts.inside j k in
-          let v : w < n = omega (arith, end) in
+      gap : (w : ℕ) → pos ≤ w → w < a → any_on axis trees.level.now cs w ≡ false
+      gap w l m = any_miss axis trees.level.now cs w (λ j k.
+          let h : at cs j < trees.count = pre.contexts.inside j k in
+          let v : w < trees.count = omega (arith, end) in
           ⊎_elim
           (λ (q : j < i). late (at cs j) w h v (omega (arith, s.passed j q)))
           (λ (q : i ≤ j). early (at cs j) w h v
           (omega (arith, spans.rise (at cs i) (at cs j) (contexts_rise pre.contexts i j q k))))
           (less? j i))
 
-      at_first : Covered axis level n (fits want kind name) cs d out next a
+      at_first : Covered axis trees.level.now trees.count (accepts test) cs d out next a
       at_first = cover_skip s.covered a (omega arith) (omega (arith, end)) gap
 
       -- the rest are on the context's axis
-      mine : (w : ℕ) → a ≤ w → w < b → any_on axis level cs w ≡ true
-      mine w l m = any_hit axis level cs w i less (spans.on (at cs i) w here (omega (arith, end))
+      mine : (w : ℕ) → a ≤ w → w < b → any_on axis trees.level.now cs w ≡ true
+      mine w l m = any_hit axis trees.level.now cs w i less (spans.on (at cs i) w here (omega (arith, end))
           ∙ both_of (le-leb (first (at cs i)) w (omega arith)) (le-leb w (last (at cs i)) (omega arith)))
 
-      pub turn_asks : RangeIn kind name a b want out next
+      pub turn_asks : RangeIn test a b out next
       turn_asks = cover_asks pre at_first b (omega arith) end mine
 
-      pub turn_next : {r : ℕ} {new : List ℕ} → Appended (rows_in (fits want kind name) a b) out next r new
-          → Turning axis level n (fits want kind name) last cs d new r b (i + 1)
+      pub turn_next : {r : ℕ} {new : List ℕ} → Appended (rows_in (accepts test) a b) out next r new
+          → Turning axis trees.level.now trees.count (accepts test) last cs d new r b (i + 1)
       turn_next g = record {
         index = omega arith;
         covered = cover_range at_first b (omega arith) end mine g;

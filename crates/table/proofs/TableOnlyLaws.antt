@@ -4,9 +4,8 @@ use mathlib.Core.Path.{◌≡◌, sym, ◌∙◌}
 use mathlib.Core.List.{List}
 use Prim.Native.Nat.{ℕ}
 use Rattle.tree.specs.Table.{Table}
-use Rattle.tree.specs.Outcome.{check_outcome, find_outcome, located}
-use Rattle.tree.specs.declared.Checked.{Checked}
-use Rattle.tree.specs.declared.Found.{Found}
+use Rattle.tree.specs.Outcome.{check_outcome, find_outcome, located, Found}
+use Rattle.tree.specs.Refusal.{Checked}
 
 pub check_only : (t : Table) {x y : Checked} → x ≡ check_outcome t → y ≡ check_outcome t → x ≡ y
 check_only t p q = p ∙ sym q

@@ -3,13 +3,28 @@
 #![tactic(auto)]
 
 ghost use Rattle.std.specs.Prelude.{◌≡◌};
-ghost use Rattle.tree.specs.Table.{table_of};
+ghost use Rattle.tree.specs.Table.{table_of, seen};
 ghost use Rattle.tree.specs.Rules.{Sound};
 ghost use Rattle.tree.specs.Outcome.{check_outcome, find_outcome, located};
 
-use tree::{Checked, Found};
+use tree::{Columns, Located, Refusal};
 
 // Refusal 1 or 2, or that the table is sound.
+#[tactic(auto, using(tree::proofs::SoundLaws::count_ok_lem), unfolding(tree::specs::Outcome::check_outcome, tree::specs::Refusal::table_check, tree::specs::Refusal::given, tree::specs::Refusal::next))]
+pub fn check_columns(columns: &Columns<'_>) -> Result<(), Refusal>
+    ensures { result ≡ check_outcome (seen columns.now) }
+{
+    if !rows::count_ok(columns) {
+        return Err(Refusal::BadCount);
+    }
+    let bad = rows::first_bad(columns);
+    if bad < columns.count {
+        return Err(Refusal::UnsoundRow(bad));
+    }
+    Ok(())
+}
+
+// The same of five columns and a count.
 pub fn check(
     key: &[usize],
     size: &[usize],
@@ -17,42 +32,36 @@ pub fn check(
     kind: &[usize],
     name: &[usize],
     count: usize,
-) -> Checked
+) -> Result<(), Refusal>
     ensures { result ≡ check_outcome
         (table_of key.now size.now level.now
         kind.now name.now count) }
 {
-    if !rows::count_ok(key, size, level, kind, name, count) {
-        return Checked::Refused(1, 0);
-    }
-    let bad = rows::first_bad(key, size, level, kind, name, count);
-    if bad < count {
-        return Checked::Refused(2, bad);
-    }
-    Checked::Passed
+    check_columns(&Columns {
+        key,
+        size,
+        level,
+        kind,
+        name,
+        count,
+    })
 }
 
 // Where the row of a key stands, or refusal 9; for calls that have checked the table.
-pub fn locate(
-    key: &[usize],
-    size: &[usize],
-    level: &[usize],
-    kind: &[usize],
-    name: &[usize],
-    count: usize,
-    key_wanted: usize,
-) -> Found
-    requires { Sound (table_of key.now size.now level.now kind.now name.now count) }
-    ensures { result ≡ located key.now level.now count key_wanted }
+#[tactic(auto, unfolding(tree::specs::Outcome::located))]
+pub fn locate(columns: &Columns<'_>, key_wanted: usize) -> Result<Located, Refusal>
+    requires { Sound (seen columns.now) }
+    ensures { result ≡ located columns.now.key.now columns.now.level.now columns.now.count key_wanted }
 {
-    let row = keys::row_of(key, count, key_wanted);
-    if row < count {
-        return Found::At(located::where_is(level, row));
+    let row = keys::row_of(columns.key, columns.count, key_wanted);
+    if row < columns.count {
+        return Ok(located::where_is(columns.level, row));
     }
-    Found::Refused(9, 0)
+    Err(Refusal::UnknownKey)
 }
 
 // Where the row of a key stands, or refusal 1, 2 or 9.
+#[tactic(auto, using(tree::proofs::SoundLaws::table_passes), unfolding(tree::specs::Outcome::find_outcome, tree::specs::Outcome::check_outcome, tree::specs::Refusal::next))]
 pub fn find(
     key: &[usize],
     size: &[usize],
@@ -61,14 +70,19 @@ pub fn find(
     name: &[usize],
     count: usize,
     key_wanted: usize,
-) -> Found
+) -> Result<Located, Refusal>
     ensures { result ≡ find_outcome
         (table_of key.now size.now level.now
         kind.now name.now count) key_wanted }
 {
-    let checked = check(key, size, level, kind, name, count);
-    match checked {
-        Checked::Refused(number, place) => Found::Refused(number, place),
-        Checked::Passed => locate(key, size, level, kind, name, count, key_wanted),
-    }
+    let columns = Columns {
+        key,
+        size,
+        level,
+        kind,
+        name,
+        count,
+    };
+    check_columns(&columns)?;
+    locate(&columns, key_wanted)
 }

@@ -18,23 +18,22 @@ use Rattle.tree.specs.Rules.{Sound}
 use Rattle.tree.specs.Tree.{other_root}
 use Rattle.tree.specs.EditRules.{NoKey, OtherRoot, InsertFits, DeleteFits, RenameFits, EditFits}
 use Rattle.tree.specs.Refusal.{given_at, next, table_check, key_check, bad_piece, insert_check, delete_check}
-use Rattle.tree.specs.Refusal.{rename_check}
+use Rattle.tree.specs.Refusal.{rename_check, Checked, passed}
 use Rattle.tree.specs.Outcome.{edit_check}
-use Rattle.tree.specs.declared.Checked.{Checked}
-use Rattle.tree.specs.declared.Checked.TheVariants.{Passed, Refused}
 use Rattle.tree.proofs.SearchLaws.{least_below, least_none, least_passes, least_hit_le}
 use Rattle.tree.proofs.SoundLaws.{table_passes, next_passed, given_passed, given_not, either, either_left}
 use Rattle.tree.proofs.SoundLaws.{either_right, both, both_of, flip}
 use Rattle.tree.proofs.TreeLaws.{less?}
 use Rattle.tree.proofs.AxisLaws.{false_of}
+use Rattle.std.specs.Prelude.{Ok, Err}
 
 -- ── a chain of checks ──
 -- the last of four, behind the first three as one
 pub next_next : (x y z w : Checked) → next x (next y (next z w)) ≡ next (next x (next y z)) w
 unfolding next
-next_next (Refused m p) y z w = refl
-next_next Passed (Refused m p) z w = refl
-next_next Passed Passed z w = refl
+next_next (Err why) y z w = refl
+next_next (Ok u) (Err why) z w = refl
+next_next (Ok u) (Ok v) z w = refl
 
 -- ── tests that fail ──
 -- where a test of the one or the other fails, both fail
@@ -120,18 +119,18 @@ piece_ok p = (
       let a = neither (not (count_ok p) || ltb (first_bad p) p.count) _ c.0 in
       let b = neither (not (count_ok p)) _ a.0 in
       record {
-        piece = (table_passes p).0 ((next_passed _ _).1 (given_not _ _ b.0, given_not _ _ b.1));
+        piece = (table_passes p).0 ((next_passed _ _).1 (given_not _ b.0, given_not _ b.1));
         root = eqb-false _ _ a.1;
         one = (no_other_root p.level p.count 0).0 c.1;
       },
   λ h. let a = (next_passed _ _).0 ((table_passes p).1 h.piece) in
       neither_of
-      (neither_of (neither_of (given_passed _ _ _ a.0) (given_passed _ _ _ a.1)) (ne_eqb _ _ h.root))
+      (neither_of (neither_of (given_passed _ _ a.0) (given_passed _ _ a.1)) (ne_eqb _ _ h.root))
       ((no_other_root p.level p.count 0).1 h.one),
 )
 
 -- its own check passes exactly if refusals 10 to 14 do not apply
-pub insert_passes : (t : Table) (r : ℕ) (p : Table) → (insert_check t r p ≡ Passed) ↔ InsertFits t r p
+pub insert_passes : (t : Table) (r : ℕ) (p : Table) → (insert_check t r p ≡ passed) ↔ InsertFits t r p
 unfolding insert_check given_at some_below
 insert_passes t r p = (there, back)
   where
@@ -141,38 +140,38 @@ insert_passes t r p = (there, back)
     taken : ℕ → Bool
     taken i = ltb (row_of t.key t.count (at p.key i)) t.count
 
-    there : insert_check t r p ≡ Passed → InsertFits t r p
+    there : insert_check t r p ≡ passed → InsertFits t r p
     there e =
         let a = (next_passed _ _).0 e in
         let b = (next_passed _ _).0 a.1 in
         let c = (next_passed _ _).0 b.1 in
         let d = (next_passed _ _).0 c.1 in
-        let o = (piece_ok p).0 (given_passed _ _ _ a.0) in
-        let m = neither _ _ (given_passed _ _ _ d.1) in
+        let o = (piece_ok p).0 (given_passed _ _ a.0) in
+        let m = neither _ _ (given_passed _ _ d.1) in
         record {
           piece = o.piece;
           root = o.root;
           one = o.one;
-          parent = leb-true _ _ (not-false _ (given_passed _ _ _ b.0));
-          low = λ i l. ltb-false _ _ ((none_below too_deep_lem p.count).0 (given_passed _ _ _ c.0) i l);
+          parent = leb-true _ _ (not-false _ (given_passed _ _ b.0));
+          low = λ i l. ltb-false _ _ ((none_below too_deep_lem p.count).0 (given_passed _ _ c.0) i l);
           fresh = λ i l. (no_key t (at p.key i)).0
-              ((none_below taken p.count).0 (given_passed _ _ _ d.0) i l);
+              ((none_below taken p.count).0 (given_passed _ _ d.0) i l);
           few = ltb-false _ _ m.0;
           room = ltb-false _ _ m.1;
         }
 
-    back : InsertFits t r p → insert_check t r p ≡ Passed
+    back : InsertFits t r p → insert_check t r p ≡ passed
     back h =
         (next_passed _ _).1 (
-          given_not _ _ ((piece_ok p).1 (record { piece = h.piece; root = h.root; one = h.one })),
+          given_not _ ((piece_ok p).1 (record { piece = h.piece; root = h.root; one = h.one })),
           (next_passed _ _).1 (
-            given_not _ _ (ap not (le-leb _ _ h.parent)),
+            given_not _ (ap not (le-leb _ _ h.parent)),
             (next_passed _ _).1 (
-              given_not _ _ ((none_below too_deep_lem p.count).1 (λ i l. le-ltb _ _ (h.low i l))),
+              given_not _ ((none_below too_deep_lem p.count).1 (λ i l. le-ltb _ _ (h.low i l))),
               (next_passed _ _).1 (
-                given_not _ _
+                given_not _
                     ((none_below taken p.count).1 (λ i l. (no_key t (at p.key i)).1 (h.fresh i l))),
-                given_not _ _ (neither_of (le-ltb _ _ h.few) (le-ltb _ _ h.room)),
+                given_not _ (neither_of (le-ltb _ _ h.few) (le-ltb _ _ h.room)),
               ),
             ),
           ),
@@ -180,14 +179,14 @@ insert_passes t r p = (there, back)
 
 -- ── a deletion ──
 -- its own check, refusal 15, passes exactly if the row is not the only root
-pub delete_passes : (t : Table) (r : ℕ) → (delete_check t r ≡ Passed) ↔ DeleteFits t r
+pub delete_passes : (t : Table) (r : ℕ) → (delete_check t r ≡ passed) ↔ DeleteFits t r
 unfolding delete_check
 delete_passes t r = (
   λ e. record {
     remains = λ z. (other_root_lem t.level t.count r).0
-        (not-false _ (not_second (eq-eqb (at t.level r) 0 z) (given_passed _ _ _ e)));
+        (not-false _ (not_second (eq-eqb (at t.level r) 0 z) (given_passed _ _ e)));
   },
-  λ h. given_not _ _ (go (eqb (at t.level r) 0) refl h),
+  λ h. given_not _ (go (eqb (at t.level r) 0) refl h),
 )
   where
     go : (b : Bool) → eqb (at t.level r) 0 ≡ b → DeleteFits t r
@@ -197,10 +196,10 @@ delete_passes t r = (
 
 -- ── a renaming ──
 -- its own check passes exactly if refusal 16 does not apply
-pub rename_passes : (t : Table) (r m : ℕ) → (rename_check t r m ≡ Passed) ↔ RenameFits (at t.kind r) m
+pub rename_passes : (t : Table) (r m : ℕ) → (rename_check t r m ≡ passed) ↔ RenameFits (at t.kind r) m
 unfolding rename_check has_name
 rename_passes t r m = (
-  λ e. let a = neither _ _ (given_passed _ _ _ e) in
+  λ e. let a = neither _ _ (given_passed _ _ e) in
       record {
         named = ⊎_elim (λ p. inl (eqb-true _ _ p)) (λ p. inr (eqb-true _ _ p)) (either _ _ (not-false _ a.0));
         nonzero = eqb-false _ _ a.1;
@@ -208,23 +207,23 @@ rename_passes t r m = (
   λ h. let n : (eqb (at t.kind r) 1 || eqb (at t.kind r) 4) ≡ true =
       ⊎_elim (λ p. either_left _ (eq-eqb _ _ p)) (λ p. either_right (eqb (at t.kind r) 1) (eq-eqb _ _ p))
       h.named in
-      given_not _ _ (neither_of (ap not n) (ne_eqb _ _ h.nonzero)),
+      given_not _ (neither_of (ap not n) (ne_eqb _ _ h.nonzero)),
 )
 
 -- ── all three ──
 -- the whole check passes exactly if refusals 1, 2 and 9 do not apply and the edit's own check passes
-pub edit_passes : (t : Table) (k : ℕ) (own : Checked) → (edit_check t k own ≡ Passed) ↔ EditFits t k own
+pub edit_passes : (t : Table) (k : ℕ) (own : Checked) → (edit_check t k own ≡ passed) ↔ EditFits t k own
 unfolding edit_check key_check
 edit_passes t k own = (
   λ e. let a = (next_passed _ _).0 e in
       let b = (next_passed _ _).0 a.1 in
       record {
         sound = (table_passes t).0 a.0;
-        found = ltb-true _ _ (not-false _ (given_passed _ _ _ b.0));
+        found = ltb-true _ _ (not-false _ (given_passed _ _ b.0));
         passes = b.1;
       },
   λ h. (next_passed _ _).1 (
     (table_passes t).1 h.sound,
-    (next_passed _ _).1 (given_not _ _ (ap not (lt-ltb _ _ h.found)), h.passes),
+    (next_passed _ _).1 (given_not _ (ap not (lt-ltb _ _ h.found)), h.passes),
   ),
 )

@@ -18,9 +18,6 @@ use Rattle.tree.specs.Carry.{carried_by, carried, old_count_ok}
 use Rattle.tree.specs.Carry.{carry_if, carry_check, carry_outcome}
 use Rattle.tree.specs.CarryRules.{MoveFits, CarryFits, new_row, gone_row}
 use Rattle.tree.specs.Outcome.{overwritten}
-use Rattle.tree.specs.declared.Checked.{Checked}
-use Rattle.tree.specs.declared.Checked.TheVariants.{Passed}
-use Rattle.tree.specs.declared.Carried.TheVariants.{Written}
 use Rattle.tree.proofs.SoundLaws.{both, both_of, next_passed, given_passed, given_not}
 use Rattle.tree.proofs.RoleLaws.{pair_passes}
 use Rattle.tree.proofs.StepAccept.{room_passes}
@@ -28,6 +25,8 @@ use Rattle.tree.proofs.RowMoveLaws.{move_adds, move_ok_lem, new_row_lem, gone_ro
 use Rattle.tree.proofs.CarryLaws.{carried_in, carried_same, carried_most}
 use Rattle.tree.proofs.PairColumns.{length_roles, length_rows, length_pairs, pairs_below, rows_below_lem}
 use Rattle.tree.proofs.SortedLaws.{Sorted, order_at, sorted_there, sorted_back}
+use Rattle.tree.specs.Refusal.{Checked, passed}
+use Rattle.std.specs.Prelude.{Ok}
 
 -- ── acceptance ──
 old_count_ok_lem : (old : ℕ) → (old_count_ok old ≡ true) ↔ ((1 ≤ old) × (old ≤ 4096))
@@ -39,36 +38,36 @@ old_count_ok_lem old = (
 
 -- accepted exactly if everything fits
 pub carry_passes : (role row : List ℕ) (old first : ℕ) (moved : ℤ) (outRole outRow : List ℕ)
-    → (carry_check role row old first moved outRole outRow ≡ Passed) ↔ CarryFits role row old first moved outRole outRow
+    → (carry_check role row old first moved outRole outRow ≡ passed) ↔ CarryFits role row old first moved outRole outRow
 unfolding carry_check
 carry_passes role row old first moved outRole outRow = (there, back)
   where
-    there : carry_check role row old first moved outRole outRow ≡ Passed
+    there : carry_check role row old first moved outRole outRow ≡ passed
         → CarryFits role row old first moved outRole outRow
     there e =
         let p = (next_passed _ _).0 e in
         let q = (next_passed _ _).0 p.1 in
         let r = (next_passed _ _).0 q.1 in
-        let c = (old_count_ok_lem old).0 (not-false _ (given_passed _ _ _ p.0)) in
+        let c = (old_count_ok_lem old).0 (not-false _ (given_passed _ _ p.0)) in
         let o = (room_passes _ outRole outRow).0 r.1 in
         record {
           some = c.0;
           few = c.1;
           pairs = (pair_passes role row old).0 q.0;
-          move = (move_ok_lem old first moved).0 (not-false _ (given_passed _ _ _ r.0));
+          move = (move_ok_lem old first moved).0 (not-false _ (given_passed _ _ r.0));
           roles = o.0;
           rows = o.1;
         }
 
     back : CarryFits role row old first moved outRole outRow
-        → carry_check role row old first moved outRole outRow ≡ Passed
+        → carry_check role row old first moved outRole outRow ≡ passed
     back h =
         (next_passed _ _).1 (
-          given_not _ _ (ap not ((old_count_ok_lem old).1 (h.some, h.few))),
+          given_not _ (ap not ((old_count_ok_lem old).1 (h.some, h.few))),
           (next_passed _ _).1 (
             (pair_passes role row old).1 h.pairs,
             (next_passed _ _).1 (
-              given_not _ _ (ap not ((move_ok_lem old first moved).1 h.move)),
+              given_not _ (ap not ((move_ok_lem old first moved).1 h.move)),
               (room_passes _ outRole outRow).1 (h.roles, h.rows),
             ),
           ),
@@ -78,7 +77,7 @@ carry_passes role row old first moved outRole outRow = (there, back)
 pub carry_accepted : (role row : List ℕ) (old first : ℕ) (moved : ℤ) (outRole outRow : List ℕ)
     → CarryFits role row old first moved outRole outRow
     → carry_outcome role row old first moved outRole outRow ≡ record {
-      answer = Written (length (carried first moved (pairs_of role row)));
+      answer = Ok (length (carried first moved (pairs_of role row)));
       role = overwritten (roles_of (carried first moved (pairs_of role row))) outRole;
       row = overwritten (rows_of (carried first moved (pairs_of role row))) outRow;
     }

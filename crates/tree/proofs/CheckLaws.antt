@@ -15,15 +15,16 @@ use borrow.Author.Tests.{eqb-true, eq-eqb, ltb-true, lt-ltb, leb-true, leb-false
 use lib.Dec.{eqb, ltb, leb}
 use Rattle.tree.specs.Search.{least}
 use Rattle.tree.specs.RefusalRules.{Least, Some, None}
-use Rattle.tree.specs.Refusal.{given, given_at, next}
-use Rattle.tree.specs.declared.Checked.{Checked}
-use Rattle.tree.specs.declared.Checked.TheVariants.{Passed, Refused}
+use Rattle.tree.specs.Refusal.{given, given_at, next, Checked, passed}
 use Rattle.tree.proofs.SearchLaws.{least_at, least_below, least_passes, least_hit_le}
 use Rattle.tree.proofs.SoundLaws.{both, both_of, either, either_left, either_right, flip}
 use Rattle.tree.proofs.SoundLaws.{next_first, given_passed, given_not}
 use Rattle.tree.proofs.AcceptLaws.{neither, neither_of, none_below}
 use Rattle.tree.proofs.AxisLaws.{false_of}
 use Rattle.tree.proofs.FindLaws.{given_refused}
+use Rattle.std.specs.Prelude.{Err}
+use Rattle.tree.specs.declared.Refusal.{Refusal}
+use Rattle.tree.specs.Number.{number}
 
 -- ── tests of numbers ──
 pub lt_iff : (a b : ℕ) → (ltb a b ≡ true) ↔ (a < b)
@@ -125,29 +126,37 @@ module _ (f : ℕ → Bool) (n : ℕ) {P : ℕ → Type 0} (h : (i : ℕ) → (f
 
 -- ── one check ──
 -- it refuses with its number and place exactly if its test passes
-pub given_when : {b : Bool} (m q p : ℕ) {P : Type 0} → (b ≡ true) ↔ P → (given b m q ≡ Refused m p) ↔ (P × (p ≡ q))
-given_when {b} m q p h = (
-  λ e. let c = (given_refused b m q m p).0 e in (h.0 c.0, sym c.2),
-  λ c. (given_refused b m q m p).1 (h.1 c.0, refl, sym c.1),
+pub given_when : {b : Bool} {why : Refusal} {P : Type 0} → (b ≡ true) ↔ P → (given b why ≡ Err why) ↔ P
+given_when {b} {why} h = (
+  λ e. h.0 ((given_refused b why why).0 e).0,
+  λ c. (given_refused b why why).1 (h.1 c, refl),
+)
+
+-- so with a place, which tells its refusals apart
+pub given_there : {b : Bool} (why : ℕ → Refusal) (q p : ℕ) {P : Type 0} → ((i j : ℕ) → why i ≡ why j → i ≡ j)
+    → (b ≡ true) ↔ P → (given b (why q) ≡ Err (why p)) ↔ (P × (p ≡ q))
+given_there {b} why q p apart h = (
+  λ e. let c = (given_refused b (why q) (why p)).0 e in (h.0 c.0, sym (apart q p c.1)),
+  λ c. (given_refused b (why q) (why p)).1 (h.1 c.0, ap why (sym c.1)),
 )
 
 -- it passes exactly if the test fails
-pub given_unless : {b : Bool} (m q : ℕ) {P : Type 0} → (b ≡ false) ↔ P → (given b m q ≡ Passed) ↔ P
-given_unless {b} m q h = (λ e. h.0 (given_passed b m q e), λ x. given_not m q (h.1 x))
+pub given_unless : {b : Bool} (why : Refusal) {P : Type 0} → (b ≡ false) ↔ P → (given b why ≡ passed) ↔ P
+given_unless {b} why h = (λ e. h.0 (given_passed b why e), λ x. given_not why (h.1 x))
 
-module _ (f : ℕ → Bool) (n m : ℕ) {P : ℕ → Type 0} (h : (i : ℕ) → (f i ≡ true) ↔ P i) where
+module _ (f : ℕ → Bool) (n : ℕ) (why : ℕ → Refusal) {P : ℕ → Type 0} (h : (i : ℕ) → (f i ≡ true) ↔ P i) where
   -- it refuses with the least place that passes
-  pub least_when : (p : ℕ) → (given_at f n m ≡ Refused m p) ↔ Least P n p
+  pub least_when : ((i j : ℕ) → why i ≡ why j → i ≡ j) → (p : ℕ) → (given_at f n why ≡ Err (why p)) ↔ Least P n p
   unfolding given_at
-  least_when p = (
-    λ e. let c = (given_refused _ m _ m p).0 e in (least_iff f n h p).0 (c.0, c.2),
-    λ k. let c = (least_iff f n h p).1 k in (given_refused _ m _ m p).1 (c.0, refl, c.1),
+  least_when apart p = (
+    λ e. let c = (given_refused _ _ (why p)).0 e in (least_iff f n h p).0 (c.0, apart _ p c.1),
+    λ k. let c = (least_iff f n h p).1 k in (given_refused _ _ (why p)).1 (c.0, ap why c.1),
   )
 
   -- and passes exactly if no place does
-  pub least_unless : (given_at f n m ≡ Passed) ↔ None P n
+  pub least_unless : (given_at f n why ≡ passed) ↔ None P n
   unfolding given_at
-  least_unless = given_unless m _ (none_iff f n h)
+  least_unless = given_unless _ (none_iff f n h)
 
 -- ── the numbers that a check can give ──
 -- x is one of these
@@ -157,7 +166,7 @@ has x (y ∷ ys) = eqb x y || has x ys
 
 -- c refuses with one of these only
 pub record Numbers (ns : List ℕ) (c : Checked) : Type 0 where
-  pub only : (m p : ℕ) → c ≡ Refused m p → has m ns ≡ true
+  pub only : (why : Refusal) → c ≡ Err why → has (number why) ns ≡ true
 
 has_append : (x : ℕ) (xs ys : List ℕ) → has x (xs ++ ys) ≡ (has x xs || has x ys)
 has_append x [] ys = refl
@@ -168,45 +177,47 @@ has_append x (y ∷ xs) ys = go (eqb x y) (has_append x xs ys)
     go true ih = refl
     go false ih = ih
 
-pub given_numbers : (b : Bool) (m q : ℕ) → Numbers (m ∷ []) (given b m q)
-given_numbers b m q = record {
-  only = λ n p e. either_left false (eq-eqb n m (sym ((given_refused b m q n p).0 e).1));
+pub given_numbers : (b : Bool) (why : Refusal) → Numbers (number why ∷ []) (given b why)
+given_numbers b why = record {
+  only = λ other e. either_left false (eq-eqb _ _ (ap number (sym ((given_refused b why other).0 e).1)));
 }
 
-pub least_numbers : (f : ℕ → Bool) (n m : ℕ) → Numbers (m ∷ []) (given_at f n m)
+pub least_numbers : (f : ℕ → Bool) (n : ℕ) (why : ℕ → Refusal) → Numbers (number (why (least f n)) ∷ []) (given_at f n why)
 unfolding given_at
-least_numbers f n m = given_numbers _ m _
+least_numbers f n why = given_numbers _ _
 
 pub next_numbers : {xs ys : List ℕ} {c d : Checked} → Numbers xs c → Numbers ys d → Numbers (xs ++ ys) (next c d)
 next_numbers {xs} {ys} {c} {d} h k = record {
-  only = λ m p e. has_append m xs ys
-      ∙ ⊎_elim (λ x. either_left (has m ys) (h.only m p x)) (λ x. either_right (has m xs) (k.only m p x.1))
-      ((next_first c d m p).0 e);
+  only = λ why e. let m : ℕ = number why in
+      has_append m xs ys
+      ∙ ⊎_elim (λ x. either_left (has m ys) (h.only why x)) (λ x. either_right (has m xs) (k.only why x.1))
+      ((next_first c d why).0 e);
 }
 
 -- any other number it never gives
-pub no_refusal : {xs : List ℕ} {c : Checked} {n p : ℕ} → Numbers xs c → has n xs ≡ false → c ≡ Refused n p → ⊥
-no_refusal {xs} {c} {n} {p} h o e = true≢false (sym (h.only n p e) ∙ o)
+pub no_refusal : {xs : List ℕ} {c : Checked} {why : Refusal} → Numbers xs c → has (number why) xs ≡ false → c ≡ Err why
+    → ⊥
+no_refusal {xs} {c} {why} h o e = true≢false (sym (h.only why e) ∙ o)
 
 -- ── a chain of checks ──
-module _ {c d : Checked} {n p : ℕ} {xs : List ℕ} where
+module _ {c d : Checked} {why : Refusal} {xs : List ℕ} where
   -- the number is not one of the later checks'
-  pub stop : {A : Type 0} → Numbers xs d → has n xs ≡ false → (c ≡ Refused n p) ↔ A → (next c d ≡ Refused n p) ↔ A
+  pub stop : {A : Type 0} → Numbers xs d → has (number why) xs ≡ false → (c ≡ Err why) ↔ A → (next c d ≡ Err why) ↔ A
   stop h o k = (
-    λ e. ⊎_elim (λ x. k.0 x) (λ x. absurd (no_refusal h o x.1)) ((next_first c d n p).0 e),
-    λ a. (next_first c d n p).1 (inl (k.1 a)),
+    λ e. ⊎_elim (λ x. k.0 x) (λ x. absurd (no_refusal h o x.1)) ((next_first c d why).0 e),
+    λ a. (next_first c d why).1 (inl (k.1 a)),
   )
 
   -- the number is not one of the first check's, which passes exactly if A
-  pub skip : {A B : Type 0} → Numbers xs c → has n xs ≡ false → (c ≡ Passed) ↔ A → (d ≡ Refused n p) ↔ B
-      → (next c d ≡ Refused n p) ↔ (A × B)
+  pub skip : {A B : Type 0} → Numbers xs c → has (number why) xs ≡ false → (c ≡ passed) ↔ A → (d ≡ Err why) ↔ B
+      → (next c d ≡ Err why) ↔ (A × B)
   skip h o j k = (
-    λ e. ⊎_elim (λ x. absurd (no_refusal h o x)) (λ x. (j.0 x.0, k.0 x.1)) ((next_first c d n p).0 e),
-    λ a. (next_first c d n p).1 (inr (j.1 a.0, k.1 a.1)),
+    λ e. ⊎_elim (λ x. absurd (no_refusal h o x)) (λ x. (j.0 x.0, k.0 x.1)) ((next_first c d why).0 e),
+    λ a. (next_first c d why).1 (inr (j.1 a.0, k.1 a.1)),
   )
 
 -- a check that is the same refuses the same
-pub same_refusal : {c d : Checked} {n p : ℕ} {A : Type 0} → c ≡ d → (d ≡ Refused n p) ↔ A → (c ≡ Refused n p) ↔ A
+pub same_refusal : {c d : Checked} {why : Refusal} {A : Type 0} → c ≡ d → (d ≡ Err why) ↔ A → (c ≡ Err why) ↔ A
 same_refusal z h = (λ e. h.0 (sym z ∙ e), λ a. z ∙ h.1 a)
 
 -- ── conditions one after the other, as one list of them ──

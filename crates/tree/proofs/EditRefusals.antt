@@ -15,20 +15,22 @@ use Rattle.tree.specs.Table.{Table, at, count_ok}
 use Rattle.tree.specs.Sound.{row_of, has_name, first_bad}
 use Rattle.tree.specs.Rules.{Sound}
 use Rattle.tree.specs.Refusal.{given, next, table_check, key_check, bad_piece, insert_check, delete_check}
-use Rattle.tree.specs.Refusal.{rename_check}
+use Rattle.tree.specs.Refusal.{rename_check, Checked, passed}
 use Rattle.tree.specs.Request.{Request, insert, delete, rename, table_in, refusal}
 use Rattle.tree.specs.RefusalRules.{Least, Some, None, KeyRow, BadPiece, TooDeep, Taken, Full, OnlyRoot, NoName}
-use Rattle.tree.specs.declared.Checked.{Checked}
-use Rattle.tree.specs.declared.Checked.TheVariants.{Passed, Refused}
 use Rattle.tree.proofs.SoundLaws.{table_passes, next_passed, given_passed, given_not, find_at}
 use Rattle.tree.proofs.AcceptLaws.{neither, neither_of, other_root_lem}
 use Rattle.tree.proofs.EditLaws.{row_key}
 use Rattle.tree.proofs.CheckLaws.{lt_iff, le_iff, eq_iff, above_iff, fails_iff, passes_iff, not_iff}
 use Rattle.tree.proofs.CheckLaws.{not_passes_iff, not_fails_iff, or_iff, and_iff, some_iff, none_iff}
-use Rattle.tree.proofs.CheckLaws.{given_when, given_unless, least_when, least_unless, has, given_numbers}
+use Rattle.tree.proofs.CheckLaws.{given_when, given_there, given_unless, least_when, least_unless, has, given_numbers}
 use Rattle.tree.proofs.CheckLaws.{least_numbers, next_numbers, stop, skip, same_refusal}
-use Rattle.tree.proofs.CheckLaws.{flat_three, flat_four, flat_six}
+use Rattle.tree.proofs.CheckLaws.{flat_three, flat_four, flat_five}
 use Rattle.tree.proofs.TableRefusals.{later_check, key_gives, after_table}
+use Rattle.std.specs.Prelude.{Err}
+use Rattle.tree.specs.declared.Refusal.{Refusal}
+use Rattle.tree.specs.declared.Refusal.TheVariants as because
+use Rattle.tree.specs.Number.{number}
 
 -- ── the row of the key ──
 -- what is said of the row that a search finds is said of the row that has the key
@@ -43,15 +45,15 @@ row_of_lem t k {Y} = (
 )
 
 -- a refusal of an edit's own check
-by_key_lem : (c : Request) (k n p : ℕ) (own : ℕ → Checked) {Y : ℕ → Type 0}
+by_key_lem : (c : Request) (k : ℕ) (why : Refusal) (own : ℕ → Checked) {Y : ℕ → Type 0}
     → later_check c ≡ next (key_check (table_in c) k) (own (row_of (table_in c).key (table_in c).count k))
-    → has n (1 ∷ 2 ∷ []) ≡ false → has n (9 ∷ []) ≡ false → ((r : ℕ) → (own r ≡ Refused n p) ↔ Y r)
-    → (refusal c ≡ Refused n p) ↔ ((r : ℕ) × KeyRow (table_in c) k r × Y r)
+    → has (number why) (1 ∷ 2 ∷ []) ≡ false → has (number why) (9 ∷ []) ≡ false → ((r : ℕ) → (own r ≡ Err why) ↔ Y r)
+    → (refusal c ≡ Err why) ↔ ((r : ℕ) × KeyRow (table_in c) k r × Y r)
 unfolding key_check
-by_key_lem c k n p own z o u h =
+by_key_lem c k why own z o u h =
     Iff.trans
-    (after_table c n p o (same_refusal z (skip (key_gives (table_in c) k) u
-    (given_unless 9 0 (not_fails_iff (lt_iff _ _))) (h _))))
+    (after_table c why o (same_refusal z (skip (key_gives (table_in c) k) u
+    (given_unless _ (not_fails_iff (lt_iff _ _))) (h _))))
     (row_of_lem (table_in c) k)
 
 -- ── the tests of a piece ──
@@ -61,9 +63,9 @@ unsound_iff : (piece : Table)
 unfolding table_check
 unsound_iff piece = passes_iff (
   λ e. let b = neither (not (count_ok piece)) _ e in
-      (table_passes piece).0 ((next_passed _ _).1 (given_not 1 0 b.0, given_not 2 _ b.1)),
+      (table_passes piece).0 ((next_passed _ _).1 (given_not _ b.0, given_not _ b.1)),
   λ s. let a = (next_passed _ _).0 ((table_passes piece).1 s) in
-      neither_of (given_passed _ _ _ a.0) (given_passed _ _ _ a.1),
+      neither_of (given_passed _ _ a.0) (given_passed _ _ a.1),
 )
 
 -- or its row 0 is a document, or it has several trees
@@ -78,93 +80,94 @@ unfolding row_of
 taken_iff t piece i = some_iff _ _ (λ j. eq_iff (at t.key j) (at piece.key i))
 
 -- ── insertion ──
-module _ (t : Table) (k : ℕ) (piece : Table) (p : ℕ) where
+module _ (t : Table) (k : ℕ) (piece : Table) where
   -- 10, 11, 12 do not apply
-  good : (given (bad_piece piece) 10 0 ≡ Passed) ↔ (BadPiece piece → ⊥)
-  good = given_unless 10 0 (fails_iff (bad_iff piece))
+  good : (given (bad_piece piece) because.BadPiece ≡ passed) ↔ (BadPiece piece → ⊥)
+  good = given_unless _ (fails_iff (bad_iff piece))
 
-  holds : (r : ℕ) → (given (not (leb (at t.kind r) 1)) 11 r ≡ Passed) ↔ (at t.kind r ≤ 1)
-  holds r = given_unless 11 r (not_fails_iff (le_iff _ _))
+  holds : (r : ℕ) → (given (not (leb (at t.kind r) 1)) (because.NotAParent r) ≡ passed) ↔ (at t.kind r ≤ 1)
+  holds r = given_unless _ (not_fails_iff (le_iff _ _))
 
   shallow : (r : ℕ)
-      → (given (some_below (λ i. ltb 63 (at piece.level i + (at t.level r + 1))) piece.count) 12 0 ≡ Passed)
+      → (given (some_below (λ i. ltb 63 (at piece.level i + (at t.level r + 1))) piece.count) because.TooDeep
+      ≡ passed)
       ↔ None (TooDeep t r piece) piece.count
   unfolding some_below
-  shallow r = given_unless 12 0 (none_iff _ _ (λ i. lt_iff _ _))
+  shallow r = given_unless _ (none_iff _ _ (λ i. lt_iff _ _))
 
-  -- 10: the piece would get refusal 1 or 2, or its row 0 is a document (02: or it has several trees); place 0
-  pub piece_refused : (refusal (insert t k piece) ≡ Refused 10 p)
-      ↔ ((r : ℕ) × KeyRow t k r × (BadPiece piece × (p ≡ 0)))
+  -- 10: the piece would get refusal 1 or 2, or its row 0 is a document (02: or it has several trees)
+  pub piece_refused : (refusal (insert t k piece) ≡ Err because.BadPiece)
+      ↔ ((r : ℕ) × KeyRow t k r × BadPiece piece)
   unfolding insert_check
   piece_refused =
-      by_key_lem _ k 10 p (λ r. insert_check t r piece) refl refl refl (λ r.
-      stop (next_numbers (given_numbers _ 11 r) (next_numbers (given_numbers _ 12 0)
-      (next_numbers (least_numbers _ _ 13) (given_numbers _ 14 0)))) refl
-      (given_when 10 0 p (bad_iff piece)))
+      by_key_lem _ k _ (λ r. insert_check t r piece) refl refl refl (λ r.
+      stop (next_numbers (given_numbers _ _) (next_numbers (given_numbers _ _)
+      (next_numbers (least_numbers _ _ because.KeyTaken) (given_numbers _ _)))) refl
+      (given_when (bad_iff piece)))
 
   -- 11: the parent's kind is neither 0 nor 1; its row
-  pub parent_refused : (refusal (insert t k piece) ≡ Refused 11 p)
+  pub parent_refused : (p : ℕ) → (refusal (insert t k piece) ≡ Err (because.NotAParent p))
       ↔ ((r : ℕ) × KeyRow t k r × ((BadPiece piece → ⊥) × (1 < at t.kind r) × (p ≡ r)))
   unfolding insert_check
-  parent_refused =
-      by_key_lem _ k 11 p (λ r. insert_check t r piece) refl refl refl (λ r.
-      flat_three (skip (given_numbers _ 10 0) refl good
-      (stop (next_numbers (given_numbers _ 12 0) (next_numbers (least_numbers _ _ 13) (given_numbers _ 14 0))) refl
-      (given_when 11 r p (not_passes_iff (above_iff _ _))))))
+  parent_refused p =
+      by_key_lem _ k _ (λ r. insert_check t r piece) refl refl refl (λ r.
+      flat_three (skip (given_numbers _ _) refl good
+      (stop (next_numbers (given_numbers _ _) (next_numbers (least_numbers _ _ because.KeyTaken) (given_numbers _ _))) refl
+      (given_there because.NotAParent r p (λ i j e. cc) (not_passes_iff (above_iff _ _))))))
 
-  -- 12: an inserted level would exceed 63; place 0
-  pub deep_refused : (refusal (insert t k piece) ≡ Refused 12 p)
+  -- 12: an inserted level would exceed 63
+  pub deep_refused : (refusal (insert t k piece) ≡ Err because.TooDeep)
       ↔ ((r : ℕ) × KeyRow t k r
-      × ((BadPiece piece → ⊥) × (at t.kind r ≤ 1) × Some (TooDeep t r piece) piece.count × (p ≡ 0)))
+      × ((BadPiece piece → ⊥) × (at t.kind r ≤ 1) × Some (TooDeep t r piece) piece.count))
   unfolding insert_check some_below
   deep_refused =
-      by_key_lem _ k 12 p (λ r. insert_check t r piece) refl refl refl (λ r.
-      flat_four (skip (given_numbers _ 10 0) refl good
-      (skip (given_numbers _ 11 r) refl (holds r)
-      (stop (next_numbers (least_numbers _ _ 13) (given_numbers _ 14 0)) refl
-      (given_when 12 0 p (some_iff _ _ (λ i. lt_iff _ _)))))))
+      by_key_lem _ k _ (λ r. insert_check t r piece) refl refl refl (λ r.
+      flat_three (skip (given_numbers _ _) refl good
+      (skip (given_numbers _ _) refl (holds r)
+      (stop (next_numbers (least_numbers _ _ because.KeyTaken) (given_numbers _ _)) refl
+      (given_when (some_iff _ _ (λ i. lt_iff _ _)))))))
 
   -- 13: a piece's key is in the table; the least such piece row
-  pub taken_refused : (refusal (insert t k piece) ≡ Refused 13 p)
+  pub taken_refused : (p : ℕ) → (refusal (insert t k piece) ≡ Err (because.KeyTaken p))
       ↔ ((r : ℕ) × KeyRow t k r
       × ((BadPiece piece → ⊥) × (at t.kind r ≤ 1) × None (TooDeep t r piece) piece.count
       × Least (Taken t piece) piece.count p))
   unfolding insert_check some_below
-  taken_refused =
-      by_key_lem _ k 13 p (λ r. insert_check t r piece) refl refl refl (λ r.
-      flat_four (skip (given_numbers _ 10 0) refl good
-      (skip (given_numbers _ 11 r) refl (holds r)
-      (skip (given_numbers _ 12 0) refl (shallow r)
-      (stop (given_numbers _ 14 0) refl (least_when _ _ 13 (taken_iff t piece) p))))))
+  taken_refused p =
+      by_key_lem _ k _ (λ r. insert_check t r piece) refl refl refl (λ r.
+      flat_four (skip (given_numbers _ _) refl good
+      (skip (given_numbers _ _) refl (holds r)
+      (skip (given_numbers _ _) refl (shallow r)
+      (stop (given_numbers _ _) refl (least_when _ _ because.KeyTaken (taken_iff t piece) (λ i j e. cc) p))))))
 
-  -- 14: the new count would exceed 4,096 or the shortest table column; place 0
-  pub full_refused : (refusal (insert t k piece) ≡ Refused 14 p)
+  -- 14: the new count would exceed 4,096 or the shortest table column
+  pub full_refused : (refusal (insert t k piece) ≡ Err because.NoRoom)
       ↔ ((r : ℕ) × KeyRow t k r
       × ((BadPiece piece → ⊥) × (at t.kind r ≤ 1) × None (TooDeep t r piece) piece.count
-      × None (Taken t piece) piece.count × Full t piece × (p ≡ 0)))
+      × None (Taken t piece) piece.count × Full t piece))
   unfolding insert_check some_below
   full_refused =
-      by_key_lem _ k 14 p (λ r. insert_check t r piece) refl refl refl (λ r.
-      flat_six (skip (given_numbers _ 10 0) refl good
-      (skip (given_numbers _ 11 r) refl (holds r)
-      (skip (given_numbers _ 12 0) refl (shallow r)
-      (skip (least_numbers _ _ 13) refl (least_unless _ _ 13 (taken_iff t piece))
-      (given_when 14 0 p (or_iff (lt_iff _ _) (lt_iff _ _))))))))
+      by_key_lem _ k _ (λ r. insert_check t r piece) refl refl refl (λ r.
+      flat_five (skip (given_numbers _ _) refl good
+      (skip (given_numbers _ _) refl (holds r)
+      (skip (given_numbers _ _) refl (shallow r)
+      (skip (least_numbers _ _ because.KeyTaken) refl (least_unless _ _ because.KeyTaken (taken_iff t piece))
+      (given_when (or_iff (lt_iff _ _) (lt_iff _ _))))))))
 
 -- ── deletion ──
--- 15: the row to delete is row 0 (02: the only root); place 0
-pub root_refused : (t : Table) (k p : ℕ)
-    → (refusal (delete t k) ≡ Refused 15 p) ↔ ((r : ℕ) × KeyRow t k r × (OnlyRoot t r × (p ≡ 0)))
+-- 15: the row to delete is row 0 (02: the only root)
+pub root_refused : (t : Table) (k : ℕ)
+    → (refusal (delete t k) ≡ Err because.DeletesRoot) ↔ ((r : ℕ) × KeyRow t k r × OnlyRoot t r)
 unfolding delete_check
-root_refused t k p =
-    by_key_lem _ k 15 p (λ r. delete_check t r) refl refl refl (λ r.
-    given_when 15 0 p (and_iff (eq_iff _ _) (not_iff (other_root_lem t.level t.count r))))
+root_refused t k =
+    by_key_lem _ k _ (λ r. delete_check t r) refl refl refl (λ r.
+    given_when (and_iff (eq_iff _ _) (not_iff (other_root_lem t.level t.count r))))
 
 -- ── renaming ──
 -- 16: the row to rename is not of kind 1 or 4, or the new name is 0; its row
 pub name_refused : (t : Table) (k m p : ℕ)
-    → (refusal (rename t k m) ≡ Refused 16 p) ↔ ((r : ℕ) × KeyRow t k r × (NoName t r m × (p ≡ r)))
+    → (refusal (rename t k m) ≡ Err (because.BadRename p)) ↔ ((r : ℕ) × KeyRow t k r × (NoName t r m × (p ≡ r)))
 unfolding rename_check has_name
 name_refused t k m p =
-    by_key_lem _ k 16 p (λ r. rename_check t r m) refl refl refl (λ r.
-    given_when 16 r p (or_iff (not_iff (or_iff (eq_iff _ _) (eq_iff _ _))) (eq_iff _ _)))
+    by_key_lem _ k _ (λ r. rename_check t r m) refl refl refl (λ r.
+    given_there because.BadRename r p (λ i j e. cc) (or_iff (not_iff (or_iff (eq_iff _ _) (eq_iff _ _))) (eq_iff _ _)))

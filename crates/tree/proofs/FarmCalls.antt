@@ -6,14 +6,12 @@ use lib.IntN.{ℤ}
 use lib.ListN.{length, replicate}
 use Rattle.tree.specs.Table.{Table, table_of}
 use Rattle.tree.specs.Step.{Ask, ask_of}
-use Rattle.tree.specs.Outcome.{StepOutcome, EditOutcome, check_outcome, find_outcome, step_outcome}
+use Rattle.tree.specs.Outcome.{StepOutcome, EditOutcome, check_outcome, find_outcome, step_outcome, Found}
 use Rattle.tree.specs.Outcome.{insert_outcome, delete_outcome, rename_outcome}
-use Rattle.tree.specs.declared.Checked.{Checked}
 use Rattle.tree.specs.declared.Located.TheVariants.{Root, Under}
-use Rattle.tree.specs.declared.Found.{Found}
-use Rattle.tree.specs.declared.Found.TheVariants.{At}
-use Rattle.tree.specs.declared.Stepped.TheVariants.{Listed, Refused as NotListed}
-use Rattle.tree.specs.declared.Edited.TheVariants.{Made, Refused as NotMade}
+use Rattle.tree.specs.Refusal.{Checked}
+use Rattle.std.specs.Prelude.{Ok, Err}
+use Rattle.tree.specs.declared.Refusal.{Refusal}
 
 -- ── the farm, with two spare rows ──
 abbrev pub farm : Table
@@ -80,7 +78,7 @@ farm_step a t m = step farm (5 ∷ 5 ∷ 7 ∷ []) (1 ∷ 2 ∷ 6 ∷ []) (ask_o
 abbrev pub lists : ℕ → ℕ → List ℕ → List ℕ → Gives
 lists kept rest role row =
     stepped (record {
-      answer = Listed (kept_free role) kept;
+      answer = Ok (record { listed = kept_free role; kept = kept });
       role = role ++ replicate rest 77;
       row = row ++ replicate rest 88;
     })
@@ -89,22 +87,22 @@ lists kept rest role row =
     kept_free [] = 0
     kept_free (x ∷ xs) = suc (kept_free xs)
 
-abbrev pub refuses : ℕ → ℕ → Gives
-refuses m p = stepped (record { answer = NotListed m p; role = replicate 8 77; row = replicate 8 88 })
+abbrev pub refuses : Refusal → Gives
+refuses why = stepped (record { answer = Err why; role = replicate 8 77; row = replicate 8 88 })
 
 abbrev pub makes : ℕ → ℕ → ℤ → Table → Gives
-makes n f d t = edited (record { answer = Made (record { count = n; first = f; moved = d }); table = t })
+makes n f d t = edited (record { answer = Ok (record { count = n; first = f; moved = d }); table = t })
 
 -- a row found: a root, or a row with its level and its parent's row
 abbrev pub a_root : ℕ → Gives
-a_root r = found (At (Root r))
+a_root r = found (Ok (Root r))
 
 abbrev pub a_child : ℕ → ℕ → ℕ → Gives
-a_child r l p = found (At (Under (record { row = r; level = l; parent = p })))
+a_child r l p = found (Ok (Under (record { row = r; level = l; parent = p })))
 
 -- an edit refused: the table as it was
-abbrev pub keeps : ℕ → ℕ → Table → Gives
-keeps m p t = edited (record { answer = NotMade m p; table = t })
+abbrev pub keeps : Refusal → Table → Gives
+keeps why t = edited (record { answer = Err why; table = t })
 
 -- the farm's columns with another count
 abbrev pub counted : ℕ → Table
@@ -168,8 +166,8 @@ from_row a c = mixed_step (1 ∷ []) (c ∷ []) a 0 0
 abbrev pub reaches : ℕ → List ℕ → Gives
 reaches kept row = lists kept (9 - length row) (map (λ w. 1) row) row
 
-abbrev pub declines : ℕ → ℕ → Gives
-declines m p = stepped (record { answer = NotListed m p; role = replicate 9 77; row = replicate 9 88 })
+abbrev pub declines : Refusal → Gives
+declines why = stepped (record { answer = Err why; role = replicate 9 77; row = replicate 9 88 })
 
 -- ── tables and pieces for edits and refusals ──
 -- a piece of two rows, a text in an element, with a spare row

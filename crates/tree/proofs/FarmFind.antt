@@ -9,13 +9,14 @@ use Rattle.tree.specs.Sound.{beside_key_ok, row_ok, first_bad}
 use Rattle.tree.specs.Tree.{parent, above, ancestor, other_root}
 use Rattle.tree.specs.Edit.{opened, closed, changed, gap_of, inserted, deleted, minus, insert_done, delete_done}
 use Rattle.tree.specs.Refusal.{given, given_at, next, table_check, key_check, bad_piece, insert_check, delete_check}
-use Rattle.tree.specs.Outcome.{stands_by, standing, located, found_if, find_outcome}
+use Rattle.tree.specs.Outcome.{stands_by, standing, located, find_outcome}
 use Rattle.tree.specs.Outcome.{edit_if, edit_check, insert_outcome, delete_outcome}
-use Rattle.tree.specs.declared.Found.TheVariants.{Refused as NotFound}
 use Rattle.tree.proofs.FarmCalls.{Case, run, farm, leaf, ladder, counted, two_bad, a_root, a_child}
 use Rattle.tree.proofs.FarmCalls.Call.{find}
 use Rattle.tree.proofs.FarmCalls.Gives.{found}
 use Rattle.tree.proofs.Farms.{farms}
+use Rattle.std.specs.Prelude.{Err}
+use Rattle.tree.specs.declared.Refusal.TheVariants.{BadCount, UnsoundRow, UnknownKey}
 
 -- the calls, with what each gives
 abbrev pub cases : List Case
@@ -47,15 +48,15 @@ cases =
     record { call = find (delete_outcome farm 21).table 31; gives = a_child 5 2 4 } ∷
     record { call = find (delete_outcome farms 10).table 20; gives = a_root 0 } ∷
     -- the refusals, as before: the count, a row that is not sound, a spare row's key, key 0
-    record { call = find (counted 13) 31; gives = found (NotFound 1 0) } ∷
-    record { call = find two_bad 30; gives = found (NotFound 2 1) } ∷
-    record { call = find farm 92; gives = found (NotFound 9 0) } ∷
-    record { call = find farm 0; gives = found (NotFound 9 0) } ∷
+    record { call = find (counted 13) 31; gives = found (Err BadCount) } ∷
+    record { call = find two_bad 30; gives = found (Err (UnsoundRow 1)) } ∷
+    record { call = find farm 92; gives = found (Err UnknownKey) } ∷
+    record { call = find farm 0; gives = found (Err UnknownKey) } ∷
     []
 
 -- each call gives what its case says
 pub farm_find : map (λ c. run c.call) cases ≡ map (λ c. c.gives) cases
-unfolding find_outcome found_if located standing stands_by edit_if edit_check insert_outcome delete_outcome given given_at next
+unfolding find_outcome located standing stands_by edit_if edit_check insert_outcome delete_outcome given given_at next
     table_check key_check bad_piece insert_check delete_check opened closed changed gap_of inserted deleted minus insert_done
     delete_done parent above ancestor other_root level_ok run_of size_of size_ok kind_ok has_name name_ok row_of key_ok
     beside_key_ok row_ok first_bad shortest count_ok least nearest some_below

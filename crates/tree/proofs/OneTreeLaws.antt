@@ -21,6 +21,7 @@ use Rattle.tree.specs.Kept.{drops}
 use Rattle.tree.specs.Refusal.{given, bad_piece, delete_check}
 use Rattle.tree.proofs.AcceptLaws.{other_root_lem, no_other_root}
 use Rattle.tree.proofs.RootLaws.{nearest_past}
+use Rattle.tree.specs.declared.Refusal.TheVariants.{DeletesRoot}
 
 -- one tree: no row after row 0, of the first n, has level 0
 abbrev pub Lone : List ℕ → ℕ → Type 0
@@ -94,9 +95,9 @@ one_row t o i l = elim (ℕ_discrete i 0) [
 -- ── the edits ──
 -- 01: 15 is given for row 0
 pub one_delete : (t : Table) → Sound t → Lone t.level t.count → (r : ℕ) → r < t.count
-    → delete_check t r ≡ given (eqb r 0) 15 0
+    → delete_check t r ≡ given (eqb r 0) DeletesRoot
 unfolding delete_check
-one_delete t s o r l = ap (λ (b : Bool). given b 15 0) (elim (ℕ_discrete r 0) [
+one_delete t s o r l = ap (λ (b : Bool). given b DeletesRoot) (elim (ℕ_discrete r 0) [
   | yes z ↦ ap₂ (λ (a b : Bool). a && not b) (eq-eqb _ _ ((s.rows r l).levels.root z))
       (ap (other_root t.level t.count) z ∙ lone_only t.level t.count o) ∙ sym (eq-eqb r 0 z)
   | no z ↦

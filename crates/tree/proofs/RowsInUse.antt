@@ -24,18 +24,18 @@ use Rattle.tree.specs.Test.{passes}
 use Rattle.tree.specs.Pairs.{Pair, pairs_of, with_role, some, distinct}
 use Rattle.tree.specs.Step.{Ask, listed, reached, lines_of, step_list}
 use Rattle.tree.specs.Kept.{drops, remaining, kept_count}
-use Rattle.tree.specs.Refusal.{next, table_check, pair_check}
-use Rattle.tree.specs.Outcome.{check_outcome, stands_by, standing, located, found_if, find_outcome, found_at}
+use Rattle.tree.specs.Refusal.{next, table_check, pair_check, Checked}
+use Rattle.tree.specs.Outcome.{check_outcome, stands_by, standing, located, find_outcome, found_at}
 use Rattle.tree.specs.Outcome.{step_if, step_check, step_outcome}
-use Rattle.tree.specs.declared.Checked.{Checked}
-use Rattle.tree.specs.declared.Checked.TheVariants.{Passed, Refused}
-use Rattle.tree.specs.declared.Found.TheVariants.{At, Refused as NotFound}
 use Rattle.tree.proofs.SearchLaws.{least_ext, gather_ext}
 use Rattle.tree.proofs.TreeLaws.{parent_below}
 use Rattle.tree.proofs.AxisLaws.{same_test}
 use Rattle.tree.proofs.StepLaws.{In}
 use Rattle.tree.proofs.RoleLaws.{pair_passes}
 use Rattle.tree.proofs.PairColumns.{pairs_below}
+use Rattle.std.specs.Prelude.{Ok, Err}
+use Rattle.tree.specs.declared.Refusal.TheVariants.{UnknownKey}
+use Rattle.tree.specs.declared.Refusal.{Refusal}
 
 -- the table with no spare rows
 abbrev pub cut : Table → Table
@@ -181,19 +181,19 @@ module _ (t : Table) where
 
   -- a find: where a row in use stands
   cut_stands : (r : ℕ) (b : Bool) → ltb r t.count ≡ b
-      → cond b (found_at (cut t) r) (NotFound 9 0) ≡ cond b (found_at t r) (NotFound 9 0)
+      → cond b (found_at (cut t) r) (Err UnknownKey) ≡ cond b (found_at t r) (Err UnknownKey)
   unfolding standing
   cut_stands r false e = refl
   cut_stands r true e =
       let l : r < t.count = ltb-true _ _ e in
-      ap₂ (λ (d q : ℕ). At (stands_by r d q)) (get_or-take t.count t.level r 0 l)
+      ap₂ (λ (d q : ℕ). Ok (stands_by r d q)) (get_or-take t.count t.level r 0 l)
       (cut_parent t.count t.level r l)
 
   cut_found : (k : ℕ) → find_outcome (cut t) k ≡ find_outcome t k
   unfolding find_outcome located
   cut_found k =
       rw (cut_check, cut_find t.count t.key t.count k (omega arith))
-      (ap (found_if (table_check t)) (cut_stands (row_of t.key t.count k) _ refl))
+      (ap (next (table_check t)) (cut_stands (row_of t.key t.count k) _ refl))
 
 -- ── the step ──
 -- two tests that agree on the rows of the pairs pass on the same
@@ -236,12 +236,12 @@ module _ (t : Table) (a : Ask) (ps : List Pair) (h : Inside t.count ps) where
       (cut_remaining qs (λ p i. g p (inr i)))
 
 -- where the pairs are refused, nothing else counts
-refused_same : (c d e : Checked) (m p j k : ℕ) (xs ys : List Pair) (outRole outRow : List ℕ)
-    → step_if (next c (next (Refused m p) d)) xs j outRole outRow
-    ≡ step_if (next c (next (Refused m p) e)) ys k outRole outRow
+refused_same : (c d e : Checked) (why : Refusal) (j k : ℕ) (xs ys : List Pair) (outRole outRow : List ℕ)
+    → step_if (next c (next (Err why) d)) xs j outRole outRow
+    ≡ step_if (next c (next (Err why) e)) ys k outRole outRow
 unfolding step_if next
-refused_same Passed d e m p j k xs ys outRole outRow = refl
-refused_same (Refused n q) d e m p j k xs ys outRole outRow = refl
+refused_same (Ok u) d e why j k xs ys outRole outRow = refl
+refused_same (Err other) d e why j k xs ys outRole outRow = refl
 
 -- a step
 cut_step : (t : Table) (role row : List ℕ) (a : Ask) (outRole outRow : List ℕ)
@@ -251,12 +251,12 @@ cut_step t role row a outRole outRow = go (pair_check role row t.count) refl
   where
     go : (c : Checked) → pair_check role row t.count ≡ c
         → step_outcome (cut t) role row a outRole outRow ≡ step_outcome t role row a outRole outRow
-    go Passed e =
+    go (Ok u) e =
         let ps : List Pair = pairs_of role row in
         let h : Inside t.count (pairs_of role row) =
         pairs_below t.count role row ((pair_passes role row t.count).0 e).inside in
         rw (cut_check t, cut_lines t a ps h (distinct ps), cut_remaining t a ps h ps h)
-    go (Refused m p) e = rw (cut_check t, e) (refused_same (table_check t) _ _ m p _ _ _ _ outRole outRow)
+    go (Err why) e = rw (cut_check t, e) (refused_same (table_check t) _ _ why _ _ _ _ outRole outRow)
 
 -- ── two tables ──
 module _ (t u : Table) (s : SameRows t u) where

@@ -18,27 +18,28 @@ use Rattle.tree.specs.Pairs.{Pair, pairs_of}
 use Rattle.tree.specs.Step.{Ask, step_list}
 use Rattle.tree.specs.EditRules.{NoKey}
 use Rattle.tree.specs.Refusal.{given, given_at, next, table_check, pair_check, ask_check, room_check, key_check}
-use Rattle.tree.specs.Refusal.{insert_check, delete_check, rename_check}
-use Rattle.tree.specs.Outcome.{check_outcome, located, found_if, find_outcome, found_at}
+use Rattle.tree.specs.Refusal.{insert_check, delete_check, rename_check, Checked, passed}
+use Rattle.tree.specs.Outcome.{check_outcome, located, find_outcome, found_at}
 use Rattle.tree.specs.Outcome.{step_if, step_check, step_outcome}
 use Rattle.tree.specs.Outcome.{edit_if, edit_check, insert_outcome, delete_outcome, rename_outcome}
 use Rattle.tree.specs.Request.{Request, check, find, step, insert, delete, rename, table_in, refusal, numbers_of}
-use Rattle.tree.specs.Request.{of_found, of_stepped, of_edited}
+use Rattle.tree.specs.Request.{said}
 use Rattle.tree.specs.RefusalRules.{Least, WrongCount, KeyMissing}
-use Rattle.tree.specs.declared.Checked.{Checked}
-use Rattle.tree.specs.declared.Checked.TheVariants.{Passed, Refused}
-use Rattle.tree.specs.declared.Found.TheVariants.{Refused as NotFound}
 use Rattle.tree.specs.declared.Done.{Done}
 use Rattle.tree.proofs.SoundLaws.{row_ok_lem, count_ok_lem, table_passes}
 use Rattle.tree.proofs.AcceptLaws.{no_key}
 use Rattle.tree.proofs.CheckLaws.{zero_iff, above_iff, nand_iff, not_passes_iff, not_iff, not_fails_iff}
 use Rattle.tree.proofs.CheckLaws.{given_when, given_unless, least_when, has, Numbers, given_numbers}
-use Rattle.tree.proofs.CheckLaws.{least_numbers, next_numbers, no_refusal, stop, skip, same_refusal, flat_three}
+use Rattle.tree.proofs.CheckLaws.{least_numbers, next_numbers, no_refusal, stop, skip, same_refusal}
+use Rattle.std.specs.Prelude.{Ok, Err}
+use Rattle.tree.specs.declared.Refusal.TheVariants.{BadCount, UnsoundRow, UnknownKey}
+use Rattle.tree.specs.declared.Refusal.{Refusal}
+use Rattle.tree.specs.Number.{number}
 
 -- ── a call's answer says what its checks say ──
 -- the checks behind that of the table
 abbrev pub later_check : Request → Checked
-later_check (check t) = Passed
+later_check (check t) = passed
 later_check (find t k) = key_check t k
 later_check (step t role row a outRole outRow) =
     next (pair_check role row t.count) (next (ask_check a)
@@ -48,34 +49,34 @@ later_check (delete t k) = next (key_check t k) (delete_check t (row_of t.key t.
 later_check (rename t k m) = next (key_check t k) (rename_check t (row_of t.key t.count k) m)
 
 -- nothing more is checked
-next_none : (c : Checked) → c ≡ next c Passed
+next_none : (c : Checked) → c ≡ next c passed
 unfolding next
-next_none Passed = refl
-next_none (Refused m p) = refl
+next_none (Ok u) = refl
+next_none (Err why) = refl
 
 -- finding
 of_found_lem : (c : Checked) (t : Table) (k : ℕ)
-    → of_found (found_if c (located t.key t.level t.count k)) ≡ next c (key_check t k)
-unfolding of_found found_if located next key_check given
-of_found_lem (Refused m p) t k = refl
-of_found_lem Passed t k = go (ltb (row_of t.key t.count k) t.count)
+    → said (next c (located t.key t.level t.count k)) ≡ next c (key_check t k)
+unfolding said located next key_check given
+of_found_lem (Err why) t k = refl
+of_found_lem (Ok u) t k = go (ltb (row_of t.key t.count k) t.count)
   where
-    go : (b : Bool) → of_found (cond b (found_at t (row_of t.key t.count k)) (NotFound 9 0)) ≡ given (not b) 9 0
+    go : (b : Bool) → said (cond b (found_at t (row_of t.key t.count k)) (Err UnknownKey)) ≡ given (not b) UnknownKey
     go true = refl
     go false = refl
 
 -- a step
 of_stepped_lem : (c : Checked) (results : List Pair) (kept : ℕ) (outRole outRow : List ℕ)
-    → of_stepped (step_if c results kept outRole outRow).answer ≡ c
-unfolding of_stepped step_if
-of_stepped_lem Passed results kept outRole outRow = refl
-of_stepped_lem (Refused m p) results kept outRole outRow = refl
+    → said (step_if c results kept outRole outRow).answer ≡ c
+unfolding said step_if
+of_stepped_lem (Ok u) results kept outRole outRow = refl
+of_stepped_lem (Err why) results kept outRole outRow = refl
 
 -- an edit
-of_edited_lem : (c : Checked) (d : Done) (t' t : Table) → of_edited (edit_if c d t' t).answer ≡ c
-unfolding of_edited edit_if
-of_edited_lem Passed d t' t = refl
-of_edited_lem (Refused m p) d t' t = refl
+of_edited_lem : (c : Checked) (d : Done) (t' t : Table) → said (edit_if c d t' t).answer ≡ c
+unfolding said edit_if
+of_edited_lem (Ok u) d t' t = refl
+of_edited_lem (Err why) d t' t = refl
 
 -- each call
 pub refusal_is : (c : Request) → refusal c ≡ next (table_check (table_in c)) (later_check c)
@@ -90,38 +91,38 @@ refusal_is (rename t k m) = of_edited_lem _ _ _ _
 -- ── which numbers each check can give ──
 pub table_gives : (t : Table) → Numbers (1 ∷ 2 ∷ []) (table_check t)
 unfolding table_check
-table_gives t = next_numbers (given_numbers _ _ _) (given_numbers _ _ _)
+table_gives t = next_numbers (given_numbers _ _) (given_numbers _ _)
 
 pub pair_gives : (role row : List ℕ) (n : ℕ) → Numbers (3 ∷ 4 ∷ 5 ∷ []) (pair_check role row n)
 unfolding pair_check
-pair_gives role row n = next_numbers (given_numbers _ _ _) (next_numbers (least_numbers _ _ _) (least_numbers _ _ _))
+pair_gives role row n = next_numbers (given_numbers _ _) (next_numbers (least_numbers _ _ _) (least_numbers _ _ _))
 
 pub ask_gives : (a : Ask) → Numbers (6 ∷ 7 ∷ []) (ask_check a)
 unfolding ask_check
-ask_gives a = next_numbers (given_numbers _ _ _) (given_numbers _ _ _)
+ask_gives a = next_numbers (given_numbers _ _) (given_numbers _ _)
 
 pub room_gives : (results : ℕ) (outRole outRow : List ℕ) → Numbers (8 ∷ []) (room_check results outRole outRow)
 unfolding room_check
-room_gives results outRole outRow = given_numbers _ _ _
+room_gives results outRole outRow = given_numbers _ _
 
 pub key_gives : (t : Table) (k : ℕ) → Numbers (9 ∷ []) (key_check t k)
 unfolding key_check
-key_gives t k = given_numbers _ _ _
+key_gives t k = given_numbers _ _
 
 pub insert_gives : (t : Table) (r : ℕ) (piece : Table)
     → Numbers (10 ∷ 11 ∷ 12 ∷ 13 ∷ 14 ∷ []) (insert_check t r piece)
 unfolding insert_check
 insert_gives t r piece =
-    next_numbers (given_numbers _ _ _) (next_numbers (given_numbers _ _ _) (next_numbers (given_numbers _ _ _)
-    (next_numbers (least_numbers _ _ _) (given_numbers _ _ _))))
+    next_numbers (given_numbers _ _) (next_numbers (given_numbers _ _) (next_numbers (given_numbers _ _)
+    (next_numbers (least_numbers _ _ _) (given_numbers _ _))))
 
 delete_gives : (t : Table) (r : ℕ) → Numbers (15 ∷ []) (delete_check t r)
 unfolding delete_check
-delete_gives t r = given_numbers _ _ _
+delete_gives t r = given_numbers _ _
 
 rename_gives : (t : Table) (r m : ℕ) → Numbers (16 ∷ []) (rename_check t r m)
 unfolding rename_check
-rename_gives t r m = given_numbers _ _ _
+rename_gives t r m = given_numbers _ _
 
 -- those behind that of the table
 abbrev later_numbers : Request → List ℕ
@@ -133,7 +134,7 @@ later_numbers (delete t k) = 9 ∷ 15 ∷ []
 later_numbers (rename t k m) = 9 ∷ 16 ∷ []
 
 later_gives : (c : Request) → Numbers (later_numbers c) (later_check c)
-later_gives (check t) = record { only = λ m p e. let z : ◌≡◌ {A = ℕ} 0 1 = cc in absurd (omega arith) }
+later_gives (check t) = record { only = λ why e. let z : ◌≡◌ {A = ℕ} 0 1 = cc in absurd (omega arith) }
 later_gives (find t k) = key_gives t k
 later_gives (step t role row a outRole outRow) =
     next_numbers (pair_gives role row t.count) (next_numbers (ask_gives a) (room_gives _ outRole outRow))
@@ -154,7 +155,8 @@ later_other (rename t k m) = (refl, refl)
 -- 9, 16."
 pub call_numbers : (c : Request) → Numbers (numbers_of c) (refusal c)
 call_numbers c = record {
-  only = λ m p e. go c m ((next_numbers (table_gives (table_in c)) (later_gives c)).only m p (sym (refusal_is c) ∙ e));
+  only = λ why e. go c (number why)
+      ((next_numbers (table_gives (table_in c)) (later_gives c)).only why (sym (refusal_is c) ∙ e));
 }
   where
     go : (c : Request) (m : ℕ) → has m (1 ∷ 2 ∷ later_numbers c) ≡ true → has m (numbers_of c) ≡ true
@@ -166,45 +168,45 @@ call_numbers c = record {
     go (rename t k m) n h = h
 
 -- ── 1 and 2, of every call ──
-module _ (c : Request) (p : ℕ) where
-  -- the count is 0, above 4,096, or above the shortest table column; place 0
-  pub count_refused : (refusal c ≡ Refused 1 p) ↔ (WrongCount (table_in c) × (p ≡ 0))
+module _ (c : Request) where
+  -- the count is 0, above 4,096, or above the shortest table column
+  pub count_refused : (refusal c ≡ Err BadCount) ↔ WrongCount (table_in c)
   unfolding table_check count_ok
   count_refused =
       same_refusal (refusal_is c)
-      (stop (later_gives c) (later_other c).0 (stop (given_numbers _ 2 _) refl
-      (given_when 1 0 p (not_passes_iff (nand_iff (nand_iff (zero_iff _) (above_iff _ _)) (above_iff _ _))))))
+      (stop (later_gives c) (later_other c).0 (stop (given_numbers _ _) refl
+      (given_when (not_passes_iff (nand_iff (nand_iff (zero_iff _) (above_iff _ _)) (above_iff _ _))))))
 
   -- a row isn't sound; the least such row
-  pub row_refused : (refusal c ≡ Refused 2 p)
+  pub row_refused : (p : ℕ) → (refusal c ≡ Err (UnsoundRow p))
       ↔ (InUse (table_in c) × Least (λ i. SoundRow (table_in c) i → ⊥) (table_in c).count p)
   unfolding table_check first_bad given_at
-  row_refused =
+  row_refused p =
       same_refusal (refusal_is c)
       (stop (later_gives c) (later_other c).1
-      (skip (given_numbers _ 1 0) refl (given_unless 1 0 (not_fails_iff (count_ok_lem (table_in c))))
-      (least_when (λ i. not (row_ok (table_in c) i)) _ 2 (λ i. not_iff (row_ok_lem (table_in c) i)) p)))
+      (skip (given_numbers _ _) refl (given_unless _ (not_fails_iff (count_ok_lem (table_in c))))
+      (least_when (λ i. not (row_ok (table_in c) i)) _ UnsoundRow (λ i. not_iff (row_ok_lem (table_in c) i)) (λ i j e. cc) p)))
 
 -- ── a refusal of a later check: the table is sound ──
-pub after_table : (c : Request) (n p : ℕ) {A : Type 0} → has n (1 ∷ 2 ∷ []) ≡ false → (later_check c ≡ Refused n p) ↔ A
-    → (refusal c ≡ Refused n p) ↔ (Sound (table_in c) × A)
-after_table c n p o h = same_refusal (refusal_is c) (skip (table_gives (table_in c)) o (table_passes (table_in c)) h)
+pub after_table : (c : Request) (why : Refusal) {A : Type 0} → has (number why) (1 ∷ 2 ∷ []) ≡ false → (later_check c ≡ Err why) ↔ A
+    → (refusal c ≡ Err why) ↔ (Sound (table_in c) × A)
+after_table c why o h = same_refusal (refusal_is c) (skip (table_gives (table_in c)) o (table_passes (table_in c)) h)
 
 -- ── 9, of every call ──
--- the call names a key and no row has it; place 0
-pub unknown_refused : (c : Request) (p : ℕ) → (refusal c ≡ Refused 9 p) ↔ (Sound (table_in c) × KeyMissing c × (p ≡ 0))
+-- the call names a key and no row has it
+pub unknown_refused : (c : Request) → (refusal c ≡ Err UnknownKey) ↔ (Sound (table_in c) × KeyMissing c)
 unfolding key_check
-unknown_refused c p = flat_three (after_table c 9 p refl (go c))
+unknown_refused c = after_table c UnknownKey refl (go c)
   where
-    key : (t : Table) (k : ℕ) → (key_check t k ≡ Refused 9 p) ↔ (NoKey t k × (p ≡ 0))
-    key t k = given_when 9 0 p (not_passes_iff (no_key t k))
+    key : (t : Table) (k : ℕ) → (key_check t k ≡ Err UnknownKey) ↔ NoKey t k
+    key t k = given_when (not_passes_iff (no_key t k))
 
-    go : (c : Request) → (later_check c ≡ Refused 9 p) ↔ (KeyMissing c × (p ≡ 0))
-    go (check t) = (λ e. absurd (no_refusal (later_gives (check t)) refl e), λ h. absurd h.0)
+    go : (c : Request) → (later_check c ≡ Err UnknownKey) ↔ KeyMissing c
+    go (check t) = (λ e. absurd (no_refusal (later_gives (check t)) refl e), λ h. absurd h)
     go (find t k) = key t k
     go (step t role row a outRole outRow) = (
       λ e. absurd (no_refusal (later_gives (step t role row a outRole outRow)) refl e),
-      λ h. absurd h.0,
+      λ h. absurd h,
     )
     go (insert t k piece) = stop (insert_gives t _ piece) refl (key t k)
     go (delete t k) = stop (delete_gives t _) refl (key t k)

@@ -19,12 +19,9 @@ use Rattle.tree.specs.Pairs.{Pair, pairs_of, roles_of, rows_of}
 use Rattle.tree.specs.Step.{Ask, step_list}
 use Rattle.tree.specs.StepRules.{PairsFit, TestRule}
 use Rattle.tree.specs.Kept.{remaining, kept_count}
-use Rattle.tree.specs.Outcome.{step_if, step_check, step_outcome}
+use Rattle.tree.specs.Outcome.{step_if, step_check, step_outcome, Stepped}
 use Rattle.tree.specs.Carry.{carried_by}
 use Rattle.tree.specs.Trees.{tree_at, pairs_in, sum_where, over_trees, tree_step, tree_results, tree_kept, Together}
-use Rattle.tree.specs.declared.Checked.{Checked}
-use Rattle.tree.specs.declared.Checked.TheVariants.{Passed, Refused}
-use Rattle.tree.specs.declared.Stepped.TheVariants.{Listed as Lists}
 use Rattle.tree.proofs.AxisLaws.{false_of}
 use Rattle.tree.proofs.RootLaws.{Root, has_root, root_is, own_root, same_tree_lem}
 use Rattle.tree.proofs.StepLaws.{Ordered, listed_exactly}
@@ -36,6 +33,9 @@ use Rattle.tree.proofs.KeptLaws.{remaining_in}
 use Rattle.tree.proofs.RowsInUse.{Inside}
 use Rattle.tree.proofs.PartLaws.{part_sound}
 use Rattle.tree.proofs.PartStep.{pairs_fit, step_part, kept_part}
+use Rattle.tree.specs.Refusal.{Checked, passed}
+use Rattle.tree.specs.declared.Tally.{Tally}
+use Rattle.std.specs.Prelude.{Ok, Err}
 
 -- ── sums ──
 -- of the same
@@ -149,7 +149,7 @@ module _ (t : Table) (s : Sound t) where
         → (r : ℕ) → r < t.count → at t.level r ≡ 0 → (outRole outRow : List ℕ)
         → tree_results t a (pairs_of role row) r ≤ length outRole → tree_results t a (pairs_of role row) r ≤ length outRow
         → tree_step t role row a r outRole outRow
-        ≡ step_if Passed (pairs_in t r (step_list t a (pairs_of role row))) (tree_kept t a.axis (pairs_of role row) r)
+        ≡ step_if passed (pairs_in t r (step_list t a (pairs_of role row))) (tree_kept t a.axis (pairs_of role row) r)
         outRole outRow
     unfolding step_outcome
     tree_accepted axis test r l z outRole outRow x y =
@@ -165,28 +165,31 @@ module _ (t : Table) (s : Sound t) where
         }) in
         ap₂ (λ (c : Checked) (qs : List Pair). step_if c (step_list (tree_at t r) a qs)
         (kept_count a.axis (tree_at t r).level qs) outRole outRow) passes same
-        ∙ ap (λ (lines : List Pair). step_if Passed lines (tree_kept t a.axis (pairs_of role row) r) outRole outRow)
+        ∙ ap (λ (lines : List Pair). step_if passed lines (tree_kept t a.axis (pairs_of role row) r) outRole outRow)
         (sym (tree_lines r l z))
 
 -- ── of the calls themselves ──
+same_tally : (x y : Tally) → ◌≡◌ {A = Stepped} (Ok x) (Ok y) → x ≡ y
+same_tally x y e = cc
+
 -- 02: an accepted step on a table of several trees gives what the steps on its trees give together
 pub step_trees : (t : Table) (role row : List ℕ) (a : Ask) (outRole outRow : List ℕ) (results kept : ℕ)
-    → (step_outcome t role row a outRole outRow).answer ≡ Lists results kept → Together t role row a results kept
+    → (step_outcome t role row a outRole outRow).answer ≡ Ok (record { listed = results; kept = kept }) → Together t role row a results kept
 unfolding step_outcome step_if
 step_trees t role row a outRole outRow results kept = go (step_check t role row a outRole outRow) refl
   where
     go : (c : Checked) → step_check t role row a outRole outRow ≡ c
         → (step_if c (step_list t a (pairs_of role row)) (kept_count a.axis t.level (pairs_of role row)) outRole outRow
-        ).answer ≡ Lists results kept
+        ).answer ≡ Ok (record { listed = results; kept = kept })
         → Together t role row a results kept
-    go (Refused m p) e d = absurd (omega (arith, let n : ◌≡◌ {A = ℕ} 0 1 = cc in n))
-    go Passed e d =
+    go (Err why) e d = absurd (omega (arith, let n : ◌≡◌ {A = ℕ} 0 1 = cc in n))
+    go (Ok u) e d =
         let fits = (step_passes t role row a outRole outRow).0 e in
         let f = fits.pairs in
         record {
-          results_sum = (let n : results ≡ length (step_list t a (pairs_of role row)) = cc in n)
+          results_sum = sym (ap (λ (x : Tally). x.listed) (same_tally _ _ d))
               ∙ results_trees t fits.sound a role row f;
-          kept_sum = (let n : kept ≡ kept_count a.axis t.level (pairs_of role row) = cc in n)
+          kept_sum = sym (ap (λ (x : Tally). x.kept) (same_tally _ _ d))
               ∙ kept_trees_lem t fits.sound a.axis (pairs_of role row) (pairs_below t.count role row f.inside);
           each = tree_accepted t fits.sound a role row f fits.axis fits.test;
         }

@@ -1,15 +1,12 @@
 -- A weekend's changes in one call: RULES 02, E4. A list of deletions and renames, done one by one in list order, by the
 -- outcomes that the two calls have, until one is refused. What that means: batch/proofs/BatchLaws.antt. Assumes
 -- nothing.
-use Rattle.std.specs.Prelude.{ℕ, suc, Bool, cond, not, ◌||◌, List, [], ◌∷◌, ltb, eqb, length}
+use Rattle.std.specs.Prelude.{ℕ, suc, Bool, cond, not, Ok, Err, ◌||◌, List, [], ◌∷◌, ltb, eqb, length}
 use Rattle.tree.specs.Search.{some_below}
 use Rattle.tree.specs.Table.{Table, at}
-use Rattle.tree.specs.Refusal.{given, next, table_check}
-use Rattle.tree.specs.Outcome.{EditOutcome, delete_outcome, rename_outcome}
-use Rattle.tree.specs.declared.Checked.{Checked}
-use Rattle.tree.specs.declared.Checked.TheVariants.{Passed, Refused}
-use Rattle.tree.specs.declared.Edited.{Edited}
-use Rattle.tree.specs.declared.Edited.TheVariants.{Made, Refused as NotMade}
+use Rattle.tree.specs.Refusal.{Checked, passed, given, next, table_check}
+use Rattle.tree.specs.Outcome.{Edited, EditOutcome, delete_outcome, rename_outcome}
+use Rattle.tree.specs.declared.Refusal.TheVariants.{BadList}
 use Rattle.tree.specs.declared.Item.{Item}
 use Rattle.tree.specs.declared.Batched.{Batched}
 
@@ -44,12 +41,12 @@ ended done end t = record { answer = record { done = done; count = t.count; end 
 
 -- an item after so many that were done, by its answer and the table that it leaves: a refusal ends the list
 unfoldable pub unless_refused : Edited → ℕ → Table → BatchOutcome → BatchOutcome
-unless_refused (Made d) done t later = later
-unless_refused (NotMade m p) done t later = ended done (Refused m p) t
+unless_refused (Ok d) done t later = later
+unless_refused (Err why) done t later = ended done (Err why) t
 
 -- the calls of these items one by one from the table t on, after so many that were done
 unfoldable pub one_by_one : ℕ → List Item → Table → BatchOutcome
-one_by_one done [] t = ended done Passed t
+one_by_one done [] t = ended done passed t
 one_by_one done (i ∷ is) t =
     unless_refused (item_outcome t i).answer done (item_outcome t i).table
     (one_by_one (suc done) is (item_outcome t i).table)
@@ -62,7 +59,7 @@ wrong_code code i = not (eqb (at code i) 1 || eqb (at code i) 2)
 unfoldable pub list_check : List ℕ → List ℕ → List ℕ → Checked
 list_check code key name =
     given (not (eqb (length code) (length key)) || not (eqb (length code) (length name)) || ltb most_items (length code)
-    || some_below (wrong_code code) (length code)) 18 0
+    || some_below (wrong_code code) (length code)) BadList
 
 -- refusal 1 or 2, then 18
 unfoldable pub batch_check : Table → List ℕ → List ℕ → List ℕ → Checked
@@ -70,8 +67,8 @@ batch_check t code key name = next (table_check t) (list_check code key name)
 
 -- the list that was checked: what its calls answer and leave, or the refusal with nothing done
 unfoldable pub batch_if : Checked → BatchOutcome → Table → BatchOutcome
-batch_if Passed o t = o
-batch_if (Refused m p) o t = ended 0 (Refused m p) t
+batch_if (Ok u) o t = o
+batch_if (Err why) o t = ended 0 (Err why) t
 
 -- what a list of changes answers and leaves
 unfoldable pub batch_outcome : Table → List ℕ → List ℕ → List ℕ → BatchOutcome

@@ -1,16 +1,14 @@
 -- Grants that move with their rows: RULES 02, E1, and E2, by which the first moved row may come to row 0. A list of
 -- pairs is carried over an edit by the old count and by what the edit answered, its first moved row and its move. For
 -- edits that the library accepted each pair keeps its key: carry/proofs/GrantLaws.antt. Assumes nothing.
-use Rattle.std.specs.Prelude.{ℕ, Bool, cond, not, ◌&&◌, List, [], ◌∷◌, ltb, leb, ℤ, pos, nat_abs, ◌+ℤ◌, length}
+use Rattle.std.specs.Prelude.{ℕ, Bool, cond, not, Result, Ok, Err, ◌&&◌, List, [], ◌∷◌, ltb, leb, ℤ, pos, nat_abs, ◌+ℤ◌, length}
 use Rattle.std.specs.Int.Signed.{le_z}
 use Rattle.tree.specs.Table.{most_rows}
 use Rattle.tree.specs.Pairs.{Pair, pair, pairs_of, roles_of, rows_of}
-use Rattle.tree.specs.Refusal.{given, next, pair_check, room_check}
+use Rattle.tree.specs.Refusal.{Checked, given, next, pair_check, room_check}
 use Rattle.tree.specs.Outcome.{overwritten}
-use Rattle.tree.specs.declared.Checked.{Checked}
-use Rattle.tree.specs.declared.Checked.TheVariants.{Passed, Refused}
-use Rattle.tree.specs.declared.Carried.{Carried}
-use Rattle.tree.specs.declared.Carried.TheVariants.{Written, Refused as NotCarried}
+use Rattle.tree.specs.declared.Refusal.{Refusal}
+use Rattle.tree.specs.declared.Refusal.TheVariants.{BadCount, BadMove}
 
 -- row w in the new numbering: at or past the first moved row rows move by the signed move, the others stay
 abbrev pub row_after : ℕ → ℤ → ℕ → ℤ
@@ -41,6 +39,10 @@ move_ok old first moved =
     leb 1 first && leb first old && le_z (pos 0) (pos first +ℤ moved)
     && le_z (pos 1) (pos old +ℤ moved) && le_z (pos old +ℤ moved) (pos most_rows)
 
+-- what carrying answers: how many pairs were written, or a refusal
+abbrev pub Carried : Type 0
+Carried = Result ℕ Refusal
+
 -- what carrying answers, and the result columns as it leaves them
 pub record CarryOutcome : Type 0 where
   pub answer : Carried
@@ -49,9 +51,9 @@ pub record CarryOutcome : Type 0 where
 
 -- the list that was checked: its length and it in front, or the refusal and the result columns as they were
 unfoldable pub carry_if : Checked → List Pair → List ℕ → List ℕ → CarryOutcome
-carry_if (Refused m p) new outRole outRow = record { answer = NotCarried m p; role = outRole; row = outRow }
-carry_if Passed new outRole outRow = record {
-  answer = Written (length new);
+carry_if (Err why) new outRole outRow = record { answer = Err why; role = outRole; row = outRow }
+carry_if (Ok u) new outRole outRow = record {
+  answer = Ok (length new);
   role = overwritten (roles_of new) outRole;
   row = overwritten (rows_of new) outRow;
 }
@@ -59,8 +61,8 @@ carry_if Passed new outRole outRow = record {
 -- refusal 1, then 3 to 5, then 17, then 8
 unfoldable pub carry_check : List ℕ → List ℕ → ℕ → ℕ → ℤ → List ℕ → List ℕ → Checked
 carry_check role row old first moved outRole outRow =
-    next (given (not (old_count_ok old)) 1 0) (next (pair_check role row old)
-    (next (given (not (move_ok old first moved)) 17 0)
+    next (given (not (old_count_ok old)) BadCount) (next (pair_check role row old)
+    (next (given (not (move_ok old first moved)) BadMove)
     (room_check (length (carried first moved (pairs_of role row))) outRole outRow)))
 
 -- what carrying pairs over an edit answers and leaves

@@ -11,6 +11,7 @@ pub mod StepRules
 pub mod Kept
 pub mod Edit
 pub mod EditRules
+pub mod Number
 pub mod Refusal
 pub mod Outcome
 pub mod Request

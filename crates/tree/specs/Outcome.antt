@@ -1,6 +1,6 @@
 -- What each public call answers, and what the lent columns hold afterwards: on every input, on refusals too.
 -- Assumes nothing.
-use Rattle.std.specs.Prelude.{ℕ, zero, suc, cond, List, ◌++◌, ltb, length, drop}
+use Rattle.std.specs.Prelude.{ℕ, zero, suc, cond, Result, Ok, Err, List, ◌++◌, ltb, length, drop}
 use Rattle.tree.specs.Table.{Table, at}
 use Rattle.tree.specs.Tree.{parent}
 use Rattle.tree.specs.Sound.{row_of}
@@ -8,19 +8,14 @@ use Rattle.tree.specs.Pairs.{Pair, pairs_of, roles_of, rows_of}
 use Rattle.tree.specs.Step.{Ask, step_list}
 use Rattle.tree.specs.Kept.{kept_count}
 use Rattle.tree.specs.Edit.{inserted, deleted, renamed, insert_done, delete_done, rename_done}
-use Rattle.tree.specs.Refusal.{next, table_check, pair_check, ask_check, room_check}
+use Rattle.tree.specs.Refusal.{Checked, next, table_check, pair_check, ask_check, room_check}
 use Rattle.tree.specs.Refusal.{key_check, insert_check, delete_check, rename_check}
-use Rattle.tree.specs.declared.Checked.{Checked}
-use Rattle.tree.specs.declared.Checked.TheVariants.{Passed, Refused}
+use Rattle.tree.specs.declared.Refusal.{Refusal}
+use Rattle.tree.specs.declared.Refusal.TheVariants.{UnknownKey}
 use Rattle.tree.specs.declared.Located.{Located}
 use Rattle.tree.specs.declared.Located.TheVariants.{Root, Under}
-use Rattle.tree.specs.declared.Found.{Found}
-use Rattle.tree.specs.declared.Found.TheVariants.{At, Refused as NotFound}
-use Rattle.tree.specs.declared.Stepped.{Stepped}
-use Rattle.tree.specs.declared.Stepped.TheVariants.{Listed, Refused as NotListed}
+use Rattle.tree.specs.declared.Tally.{Tally}
 use Rattle.tree.specs.declared.Done.{Done}
-use Rattle.tree.specs.declared.Edited.{Edited}
-use Rattle.tree.specs.declared.Edited.TheVariants.{Made, Refused as NotMade}
 
 -- ── table check: 1, 2 ──
 -- what checking a table answers
@@ -28,6 +23,10 @@ unfoldable pub check_outcome : Table → Checked
 check_outcome t = table_check t
 
 -- ── find: 1, 2, 9; RULES 02, E3 ──
+-- what finding a key answers: where its row stands, or a refusal
+abbrev pub Found : Type 0
+Found = Result Located Refusal
+
 -- row r of the level l, by one more than its parent's row: a root where it has no parent
 unfoldable pub stands_by : ℕ → ℕ → ℕ → Located
 stands_by r l zero = Root r
@@ -44,22 +43,21 @@ row_there (Under c) = c.row
 
 -- where the row of a key stands, among the first n rows, or 9
 unfoldable pub located : List ℕ → List ℕ → ℕ → ℕ → Found
-located key level n k = cond (ltb (row_of key n k) n) (At (standing level (row_of key n k))) (NotFound 9 0)
-
--- what was found, once the check passed, or the refusal of the check
-unfoldable pub found_if : Checked → Found → Found
-found_if Passed f = f
-found_if (Refused m p) f = NotFound m p
+located key level n k = cond (ltb (row_of key n k) n) (Ok (standing level (row_of key n k))) (Err UnknownKey)
 
 -- what finding a key answers: the row that has it, its level and its parent's row
 unfoldable pub find_outcome : Table → ℕ → Found
-find_outcome t k = found_if (table_check t) (located t.key t.level t.count k)
+find_outcome t k = next (table_check t) (located t.key t.level t.count k)
 
 -- the answer that row r of t is found
 abbrev pub found_at : Table → ℕ → Found
-found_at t r = At (standing t.level r)
+found_at t r = Ok (standing t.level r)
 
 -- ── step: 1 to 8 ──
+-- what a step answers: how many results and which kept count, or a refusal
+abbrev pub Stepped : Type 0
+Stepped = Result Tally Refusal
+
 -- what a step answers, and the result columns as it leaves them
 pub record StepOutcome : Type 0 where
   pub answer : Stepped
@@ -72,9 +70,9 @@ overwritten xs out = xs ++ drop (length xs) out
 
 -- the step that was checked: these results and this kept count, or the refusal and the result columns as they were
 unfoldable pub step_if : Checked → List Pair → ℕ → List ℕ → List ℕ → StepOutcome
-step_if (Refused m p) results kept outRole outRow = record { answer = NotListed m p; role = outRole; row = outRow }
-step_if Passed results kept outRole outRow = record {
-  answer = Listed (length results) kept;
+step_if (Err why) results kept outRole outRow = record { answer = Err why; role = outRole; row = outRow }
+step_if (Ok u) results kept outRole outRow = record {
+  answer = Ok (record { listed = length results; kept = kept });
   role = overwritten (roles_of results) outRole;
   row = overwritten (rows_of results) outRow;
 }
@@ -92,6 +90,10 @@ step_outcome t role row a outRole outRow =
     (kept_count a.axis t.level (pairs_of role row)) outRole outRow
 
 -- ── edits: 1, 2, 9, then their own ──
+-- what an edit answers: what was done, or a refusal
+abbrev pub Edited : Type 0
+Edited = Result Done Refusal
+
 -- what an edit answers, and the table as it leaves it
 pub record EditOutcome : Type 0 where
   pub answer : Edited
@@ -99,8 +101,8 @@ pub record EditOutcome : Type 0 where
 
 -- the edit that was checked: its answer and table, or the refusal and the table as it was
 unfoldable pub edit_if : Checked → Done → Table → Table → EditOutcome
-edit_if (Refused m p) d t' t = record { answer = NotMade m p; table = t }
-edit_if Passed d t' t = record { answer = Made d; table = t' }
+edit_if (Err why) d t' t = record { answer = Err why; table = t }
+edit_if (Ok u) d t' t = record { answer = Ok d; table = t' }
 
 -- 1, 2 and 9, then the edit's own check of the row found
 unfoldable pub edit_check : Table → ℕ → Checked → Checked

@@ -1,19 +1,13 @@
 -- The public calls of 01, and the refusal that the answer of each gives. When a call gives which one:
 -- proofs/TableRefusals.antt (1, 2, 9), StepRefusals.antt (3 to 8), EditRefusals.antt (10 to 16), by the conditions of
 -- RefusalRules. Carrying pairs has CarryRefusals.antt, and a list of changes BatchRefusals.antt. Assumes nothing.
-use Rattle.std.specs.Prelude.{ℕ, List, [], ◌∷◌}
+use Rattle.std.specs.Prelude.{ℕ, Result, Ok, Err, List, [], ◌∷◌}
 use Rattle.tree.specs.Table.{Table}
 use Rattle.tree.specs.Step.{Ask}
 use Rattle.tree.specs.Outcome.{check_outcome, find_outcome, step_outcome, insert_outcome, delete_outcome}
 use Rattle.tree.specs.Outcome.{rename_outcome}
-use Rattle.tree.specs.declared.Checked.{Checked}
-use Rattle.tree.specs.declared.Checked.TheVariants.{Passed, Refused}
-use Rattle.tree.specs.declared.Found.{Found}
-use Rattle.tree.specs.declared.Found.TheVariants.{At, Refused as NotFound}
-use Rattle.tree.specs.declared.Stepped.{Stepped}
-use Rattle.tree.specs.declared.Stepped.TheVariants.{Listed, Refused as NotListed}
-use Rattle.tree.specs.declared.Edited.{Edited}
-use Rattle.tree.specs.declared.Edited.TheVariants.{Made, Refused as NotMade}
+use Rattle.tree.specs.Refusal.{Checked, passed}
+use Rattle.tree.specs.declared.Refusal.{Refusal}
 
 -- check t · find t k · step t role row a outRole outRow · insert t k piece · delete t k · rename t k name
 pub data Request : Type 0 where
@@ -33,27 +27,19 @@ table_in (insert t k piece) = t
 table_in (delete t k) = t
 table_in (rename t k m) = t
 
--- ── what an answer says: the call passed, or the number and place of its refusal ──
-unfoldable pub of_found : Found → Checked
-of_found (At l) = Passed
-of_found (NotFound m p) = Refused m p
-
-unfoldable pub of_stepped : Stepped → Checked
-of_stepped (Listed n kept) = Passed
-of_stepped (NotListed m p) = Refused m p
-
-unfoldable pub of_edited : Edited → Checked
-of_edited (Made d) = Passed
-of_edited (NotMade m p) = Refused m p
+-- what an answer says: the call passed, or its refusal
+unfoldable pub said : {A : Type 0} → Result A Refusal → Checked
+said (Ok a) = passed
+said (Err why) = Err why
 
 -- what the answer of a call says
 unfoldable pub refusal : Request → Checked
 refusal (check t) = check_outcome t
-refusal (find t k) = of_found (find_outcome t k)
-refusal (step t role row a outRole outRow) = of_stepped (step_outcome t role row a outRole outRow).answer
-refusal (insert t k piece) = of_edited (insert_outcome t k piece).answer
-refusal (delete t k) = of_edited (delete_outcome t k).answer
-refusal (rename t k m) = of_edited (rename_outcome t k m).answer
+refusal (find t k) = said (find_outcome t k)
+refusal (step t role row a outRole outRow) = said (step_outcome t role row a outRole outRow).answer
+refusal (insert t k piece) = said (insert_outcome t k piece).answer
+refusal (delete t k) = said (delete_outcome t k).answer
+refusal (rename t k m) = said (rename_outcome t k m).answer
 
 -- 01: "Table check: 1, 2. Step: 1 to 8. Find: 1, 2, 9. Insertion: 1, 2, 9 to 14. Deletion: 1, 2, 9, 15. Rename: 1, 2,
 -- 9, 16."

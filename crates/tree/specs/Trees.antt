@@ -8,7 +8,7 @@ use Rattle.tree.specs.Step.{Ask, step_list}
 use Rattle.tree.specs.Kept.{kept_count}
 use Rattle.tree.specs.Outcome.{StepOutcome, step_if, step_outcome}
 use Rattle.tree.specs.Carry.{carried_by}
-use Rattle.tree.specs.declared.Checked.TheVariants.{Passed}
+use Rattle.tree.specs.Refusal.{passed}
 
 -- m rows of a column from row r on
 abbrev pub part : ℕ → ℕ → List ℕ → List ℕ
@@ -61,5 +61,5 @@ pub record Together (t : Table) (role row : List ℕ) (a : Ask) (results kept : 
   pub each : (r : ℕ) → r < t.count → at t.level r ≡ 0 → (outRole outRow : List ℕ)
       → tree_results t a (pairs_of role row) r ≤ length outRole → tree_results t a (pairs_of role row) r ≤ length outRow
       → tree_step t role row a r outRole outRow
-      ≡ step_if Passed (pairs_in t r (step_list t a (pairs_of role row))) (tree_kept t a.axis (pairs_of role row) r)
+      ≡ step_if passed (pairs_in t r (step_list t a (pairs_of role row))) (tree_kept t a.axis (pairs_of role row) r)
       outRole outRow

@@ -1,7 +1,7 @@
 -- The ancestors of a row in rows whose levels and sizes make trees: `parent_low`, `ancestor_path`. The rows on a path:
 -- `path_before`, `path_own`, `path_above`. Those of them that are new: `way-..`. The walk that appends these, parent by
--- parent: `climb_start`, `climb_yes` and `climb_no` for a row, `climb_less`, `climb_done`; what a turn asks for,
--- `climb_room` and `climb_length`; and where it ends, `climb_end`. Assumes nothing.
+-- parent: `climb_start`, `climb_yes` and `climb_no` for a row, `climb_less`, `climb_done`; and what a
+-- turn asks for, `climb_room` and `climb_length`. Assumes nothing.
 use Prim.Native.Nat.{ℕ, zero, suc, ◌+◌, ◌<◌, ◌≤◌}
 use mathlib.Core.Path.{◌≡◌, refl, sym, ap, ap₂, subst, ◌∙◌}
 use mathlib.Core.Logic.{⊎_elim}
@@ -21,12 +21,13 @@ use Rattle.tree.proofs.SearchLaws.{only_none, only_one}
 use Rattle.tree.proofs.TreeLaws.{Under, less?, parent_below, from_parent, under_parent, ancestor_under}
 use Rattle.tree.proofs.SoundLaws.{shape_steps, either, either_left, either_right}
 use Rattle.tree.proofs.AxisLaws.{same_test, false_of}
-use Rattle.scan.specs.Want.{fits}
+use Rattle.scan.specs.Want.{accepts}
 use Rattle.scan.specs.Range.{rows_in, Appended}
 use Rattle.scan.proofs.ScanLaws.{rows_same, rows_ended, rows_last, rows_empty}
 use Rattle.scan.proofs.AppendedLaws.{appended_as, appended_none, appended_more, appended_length}
 use Rattle.ways.specs.Above.{on_path, way_up, WayIn}
-use Rattle.scan.specs.declared.want.Want.{Want}
+use Rattle.scan.specs.declared.trees.Trees.{Trees}
+use Rattle.scan.specs.declared.want.NodeTest.{NodeTest}
 
 -- a parent is an earlier row
 pub parent_low : (level : List ℕ) (v : ℕ) → parent level v ≤ v
@@ -153,83 +154,79 @@ reverse_only true w = refl
 reverse_only false w = refl
 
 -- the rows met are appended, from the last to the first, and the others are those of the way up from a
-pub record Climbed (level : List ℕ) (n floor start : ℕ) (test : ℕ → Bool) (d : List ℕ) (written : ℕ) (out : List ℕ)
+pub record Climbed (trees : Trees) (test : NodeTest) (floor start : ℕ) (d : List ℕ) (written : ℕ) (out : List ℕ)
     (next a : ℕ) : Type 0 where
   pub met : List ℕ
-  pub low : a ≤ n
-  pub split : reverse (way_up level floor start test) ≡ met ++ reverse (way_up level floor a test)
+  pub low : a ≤ trees.count
+  pub split : reverse (way_up trees.level.now floor start (accepts test))
+      ≡ met ++ reverse (way_up trees.level.now floor a (accepts test))
   pub appends : Appended met d written next out
 
-module _ {size level kind name up : List ℕ} {n floor start : ℕ} {want : Want} {d : List ℕ} {written : ℕ}
-    (h : WayIn size level kind name n up floor start want d written) where
-  abbrev test : ℕ → Bool
-  test = fits want kind name
+module _ {trees : Trees} {test : NodeTest} {up : List ℕ} {floor start : ℕ} {d : List ℕ}
+    {written : ℕ} (h : WayIn trees up test floor start d written) where
+  abbrev fit : ℕ → Bool
+  fit = accepts test
 
   -- the rows from the link a on that are new, as they are met
   abbrev left : ℕ → List ℕ
-  left a = reverse (way_up level floor a test)
+  left a = reverse (way_up trees.level.now floor a fit)
 
-  pub climb_start : Climbed level n floor start test d written d written start
+  pub climb_start : Climbed trees test floor start d written d written start
   climb_start = record { met = []; low = h.low; split = refl; appends = appended_none d written }
 
-  -- what is appended in the end lies within the column
-  pub climb_end : {out : List ℕ} {r : ℕ} → Appended (left start) d written r out → r ≤ length out
-  climb_end g =
-      let k = length-reverse (way_up level floor start test) in
-      omega (arith, g.many, h.room, appended_length g (omega (arith, h.room)))
-
-  module _ {out : List ℕ} {next a : ℕ} (s : Climbed level n floor start test d written out next a) where
+  module _ {out : List ℕ} {next a : ℕ}
+      (s : Climbed trees test floor start d written out next a) where
     -- how many rows are met and left
-    parts : length (way_up level floor start test) ≡ length s.met + length (left a)
+    parts : length (way_up trees.level.now floor start fit) ≡ length s.met + length (left a)
     parts =
-        sym (length-reverse (way_up level floor start test))
+        sym (length-reverse (way_up trees.level.now floor start fit))
         ∙ ap length s.split
         ∙ length-append s.met (left a)
 
     pub climb_length : length out ≡ length d
     climb_length = appended_length s.appends (omega (arith, parts, h.room))
 
-    pub climb_done : a ≤ floor → Appended (reverse (way_up level floor start test)) d written next out
+    pub climb_done : a ≤ floor → Appended (reverse (way_up trees.level.now floor start fit)) d written next out
     climb_done l = appended_as
         (sym (s.split
-        ∙ ap (λ (xs : List ℕ). s.met ++ reverse xs) (way_none level floor a test l)
+        ∙ ap (λ (xs : List ℕ). s.met ++ reverse xs) (way_none trees.level.now floor a fit l)
         ∙ append-nil s.met))
         s.appends
 
     module _ (v : ℕ) (e : a ≡ suc v) (m : floor < a) where
-      row_in : v < n
+      row_in : v < trees.count
       row_in = omega (arith, s.low)
 
-      P-is : at up v ≡ parent level v
+      P-is : at up v ≡ parent trees.level.now v
       P-is = h.parents.parents v row_in
 
       pub climb_less : at up v < a
-      climb_less = omega (arith, P-is, parent_low level v)
+      climb_less = omega (arith, P-is, parent_low trees.level.now v)
 
       -- row v is met next
-      next_row : left a ≡ only (test v) v ++ left (at up v)
+      next_row : left a ≡ only (fit v) v ++ left (at up v)
       next_row =
           ap left e
-          ∙ ap reverse (way_snoc h.shape floor test v row_in (omega arith))
-          ∙ reverse-append (way_up level floor (parent level v) test) (only (test v) v)
-          ∙ ap₂ (λ (xs : List ℕ) (k : ℕ). xs ++ left k) (reverse_only (test v) v) (sym P-is)
+          ∙ ap reverse (way_snoc trees.shape floor fit v row_in (omega arith))
+          ∙ reverse-append (way_up trees.level.now floor (parent trees.level.now v) fit) (only (fit v) v)
+          ∙ ap₂ (λ (xs : List ℕ) (k : ℕ). xs ++ left k) (reverse_only (fit v) v) (sym P-is)
 
       -- it does not fit
-      pub climb_no : test v ≡ false → Climbed level n floor start test d written out next (at up v)
+      pub climb_no : fit v ≡ false → Climbed trees test floor start d written out next (at up v)
       climb_no f = record {
         met = s.met;
         low = omega (arith, climb_less, s.low);
         split =
             s.split
             ∙ ap (λ (xs : List ℕ). s.met ++ xs)
-            (next_row ∙ ap (λ (xs : List ℕ). xs ++ left (at up v)) (only_none (test v) v f));
+            (next_row ∙ ap (λ (xs : List ℕ). xs ++ left (at up v)) (only_none (fit v) v f));
         appends = s.appends;
       }
 
       -- it fits
-      module _ (f : test v ≡ true) where
+      module _ (f : fit v ≡ true) where
         fitting : left a ≡ v ∷ left (at up v)
-        fitting = next_row ∙ ap (λ (xs : List ℕ). xs ++ left (at up v)) (only_one (test v) v f)
+        fitting = next_row ∙ ap (λ (xs : List ℕ). xs ++ left (at up v)) (only_one (fit v) v f)
 
         room : next < length d
         room = omega (arith, s.appends.many, parts, ap length fitting, h.room)
@@ -237,7 +234,8 @@ module _ {size level kind name up : List ℕ} {n floor start : ℕ} {want : Want
         pub climb_room : next < length out
         climb_room = omega (arith, room, climb_length)
 
-        pub climb_yes : Climbed level n floor start test d written (set out next v) (next + 1) (at up v)
+        pub climb_yes : Climbed trees test floor start d written (set out next v) (next + 1)
+            (at up v)
         climb_yes = record {
           met = s.met ++ (v ∷ []);
           low = omega (arith, climb_less, s.low);

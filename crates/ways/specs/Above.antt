@@ -2,11 +2,11 @@
 -- Assumes nothing.
 use Rattle.std.specs.Prelude.{ℕ, zero, suc, ◌+◌, ◌≤◌, Bool, false, cond, ◌&&◌, ◌||◌, List, eqb, length}
 use Rattle.tree.specs.Tree.{parent, ancestor}
-use Rattle.tree.specs.Rules.{Shape}
-use Rattle.scan.specs.Want.{fits}
+use Rattle.scan.specs.Want.{accepts}
 use Rattle.scan.specs.OneRole.{Parents}
 use Rattle.scan.specs.Range.{rows_in}
-use Rattle.scan.specs.declared.want.Want.{Want}
+use Rattle.scan.specs.declared.trees.Trees.{Trees}
+use Rattle.scan.specs.declared.want.NodeTest.{NodeTest}
 
 -- row w is the row that a link names, or one of its ancestors; a link is one more than a row, or 0 for none
 unfoldable pub on_path : List ℕ → ℕ → ℕ → Bool
@@ -21,12 +21,11 @@ way_up level floor start test = rows_in (λ w. on_path level start w && test w) 
 unfoldable pub way_start : ℕ → List ℕ → ℕ → ℕ
 way_start own level c = cond (eqb own 0) (parent level c) (c + 1)
 
--- trees and their parents, a link of a row in use, and room for the rows of its way up that fit
-pub record WayIn (size level kind name : List ℕ) (n : ℕ) (up : List ℕ) (floor start : ℕ) (want : Want)
-    (out : List ℕ) (written : ℕ) : Type 0 where
-  pub shape : Shape size level n
-  pub parents : Parents level n up
-  pub low : start ≤ n
-  pub in_kind : n ≤ length kind
-  pub in_name : n ≤ length name
-  pub room : written + length (way_up level floor start (fits want kind name)) ≤ length out
+-- trees' parents, a link of a row in use, and room for the rows of its way up that fit
+pub record WayIn (trees : Trees) (up : List ℕ) (test : NodeTest) (floor start : ℕ) (out : List ℕ) (written : ℕ)
+    : Type 0 where
+  pub parents : Parents trees.level.now trees.count up
+  pub low : start ≤ trees.count
+  pub in_kind : trees.count ≤ length test.kind.now
+  pub in_name : trees.count ≤ length test.name.now
+  pub room : written + length (way_up trees.level.now floor start (accepts test)) ≤ length out

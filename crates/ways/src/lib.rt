@@ -6,55 +6,37 @@
 #![tactic(auto)]
 
 ghost use Rattle.std.specs.Prelude.{◌≡◌, reverse, ◌+◌, ◌<◌, ◌≤◌};
-ghost use Rattle.scan.specs.Want.{fits};
-ghost use Rattle.scan.specs.OneRole.{one_role, RoleIn, Parents, Wrote};
+ghost use Rattle.scan.specs.Want.{accepts};
+ghost use Rattle.scan.specs.OneRole.{reached, RoleIn, Parents, Wrote};
 ghost use Rattle.scan.specs.Range.{Appended};
 ghost use Rattle.ways.specs.Above.{way_up, way_start, WayIn};
 
-use scan::want::{Want, fits_row};
-
-// Turns a part of a column round: the last is the first, the first is the last.
-fn turn_round(part: &mut [usize])
-    ensures { part.new ≡ reverse part.old }
-{
-    let mut i = 0;
-    let mut j = part.len();
-    while i + 1 < j {
-        j -= 1;
-        let first = part[i];
-        part[i] = part[j];
-        part[j] = first;
-        i += 1;
-    }
-}
+use scan::trees::Trees;
+use scan::want::NodeTest;
 
 // Appends the row that the link `start` names, and its ancestors, as far as they are not before row `floor` and fit,
 // from the last to the first; answers how many are written then.
 fn climb(
-    size: &[usize],
-    level: &[usize],
-    kind: &[usize],
-    name: &[usize],
-    count: usize,
+    trees: &Trees<'_>,
     up: &[usize; 4096],
+    test: &NodeTest<'_>,
     floor: usize,
     start: usize,
-    want: Want,
     out: &mut [usize],
     written: usize,
 ) -> usize
-    requires { WayIn size.now level.now kind.now name.now count up.now floor start
-        want out.old written }
+    requires { WayIn trees.now up.now test.now floor start out.old written }
     ensures { Appended
-        (reverse (way_up level.now floor start
-        (fits want kind.now name.now)))
+        (reverse (way_up trees.now.level.now floor start (accepts test.now)))
         out.old written result out.new }
 {
+    let test = *test;
     let mut next = written;
     let mut link = start;
+    // Along the links: no index is counted.
     while floor < link {
         let v = link - 1;
-        if fits_row(kind, name, v, want) {
+        if test.fits(v) {
             out[next] = v;
             next += 1;
         }
@@ -65,36 +47,29 @@ fn climb(
 
 // Appends the same rows from the first to the last; answers how many are written then.
 fn way_up(
-    size: &[usize],
-    level: &[usize],
-    kind: &[usize],
-    name: &[usize],
-    count: usize,
+    trees: &Trees<'_>,
     up: &[usize; 4096],
+    test: &NodeTest<'_>,
     floor: usize,
     start: usize,
-    want: Want,
     out: &mut [usize],
     written: usize,
 ) -> usize
-    requires { WayIn size.now level.now kind.now name.now count up.now floor start
-        want out.old written }
+    requires { WayIn trees.now up.now test.now floor start out.old written }
     ensures { Appended
-        (way_up level.now floor start
-        (fits want kind.now name.now))
+        (way_up trees.now.level.now floor start (accepts test.now))
         out.old written result out.new }
 {
-    let end = climb(
-        size, level, kind, name, count, up, floor, start, want, out, written,
-    );
-    turn_round(&mut out[written..end]);
+    let end = climb(trees, up, test, floor, start, out, written);
+    out[written..end].reverse();
     end
 }
 
-// The link at which the way up from row c starts: that of its parent, or, where `own` is 1, of the row itself.
-fn way_start(level: &[usize], count: usize, up: &[usize; 4096], c: usize, own: usize) -> usize
-    requires { (c < count) × (count ≤ 4096) × Parents level.now count up.now }
-    ensures { result ≡ way_start own level.now c }
+// The link at which the way up from row c starts: that of its parent, or, where `own` is 1, of the row itself. `own` is a
+// number, since the axis is 6 more, as the contracts say.
+fn way_start(trees: &Trees<'_>, up: &[usize; 4096], c: usize, own: usize) -> usize
+    requires { (c < trees.now.count) × Parents trees.now.level.now trees.now.count up.now }
+    ensures { result ≡ way_start own trees.now.level.now c }
 {
     if own == 0 {
         return up[c];
@@ -105,36 +80,23 @@ fn way_start(level: &[usize], count: usize, up: &[usize; 4096], c: usize, own: u
 // Axis 6, where `own` is 0: writes the ancestors of the contexts of one role that fit, each once, to the front of out;
 // answers how many. Axis 7, where `own` is 1: the same with the contexts themselves.
 pub fn rows_above(
-    size: &[usize],
-    level: &[usize],
-    kind: &[usize],
-    name: &[usize],
-    count: usize,
+    trees: &Trees<'_>,
     up: &[usize; 4096],
+    test: &NodeTest<'_>,
     rows: &[usize],
     own: usize,
-    want: Want,
     out: &mut [usize],
 ) -> usize
-    requires own_bound { (own ≤ 1) × RoleIn (6 + own) size.now level.now kind.now name.now count
-        rows.now want out.old }
-    requires parents { Parents level.now count up.now }
-    ensures { Wrote
-        (one_role (6 + own) level.now count
-        (fits want kind.now name.now) rows.now)
-        out.old result out.new }
+    requires own_bound { (own ≤ 1) × RoleIn (6 + own) trees.now test.now rows.now out.old }
+    requires parents { Parents trees.now.level.now trees.now.count up.now }
+    ensures { Wrote (reached (6 + own) trees.now test.now rows.now) out.old result out.new }
 {
     let mut next = 0;
     let mut floor = 0;
-    let mut i = 0;
-    while i < rows.len() {
-        let c = rows[i];
-        let start = way_start(level, count, up, c, own);
-        next = way_up(
-            size, level, kind, name, count, up, floor, start, want, out, next,
-        );
+    for &c in rows {
+        let start = way_start(trees, up, c, own);
+        next = way_up(trees, up, test, floor, start, out, next);
         floor = c + own;
-        i += 1;
     }
     next
 }

@@ -8,14 +8,14 @@ pub mark_parents-requires : goal.mark_parents-requires
 unfolding climbs_axis
 mark_parents-requires c = record {
   marks = c.requires.marks;
-  parents = c.requires.parents (ap climbs_axis c.in-5.is);
+  parents = c.args.walk.now.links.parents (ap climbs_axis c.in-5.is);
 }
 
 pub mark_later_siblings-requires : goal.mark_later_siblings-requires
 unfolding climbs_axis
 mark_later_siblings-requires c = record {
   marks = c.requires.marks;
-  parents = c.requires.parents (ap climbs_axis c.in-10.is);
+  parents = c.args.walk.now.links.parents (ap climbs_axis c.in-10.is);
 }
 
 pub mark_earlier_siblings-requires : goal.mark_earlier_siblings-requires
@@ -23,7 +23,7 @@ unfolding climbs_axis
 mark_earlier_siblings-requires c =
     let other = c.in_default.in_default-own.rest in record {
       marks = c.requires.marks;
-      parents = c.requires.parents
+      parents = c.args.walk.now.links.parents
           (ap climbs_axis (marked_last _ c.requires.axis_value
           other.0.0.1 other.0.1 other.1));
     }

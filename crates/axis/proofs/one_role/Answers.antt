@@ -7,42 +7,36 @@ use Rattle.axis.proofs.RoleAxisLaws.{role_as, wrote_axis, above_own}
 use Rattle.axis.proofs.RoleAxisLaws.{marked_rest, marked_rows, marked_drains}
 use Rattle.axis.proofs.one_role.Goals as goal
 
-pub overflow_sub-axis : goal.overflow_sub-axis
-overflow_sub-axis c = omega (arith, (above_own _ (sym c.is_above.ensures ∙ c.if-is_above.true)).1)
+pub overflow_sub-walk : goal.overflow_sub-walk
+overflow_sub-walk c = omega (arith, (above_own _ (sym c.is_above.ensures ∙ c.if-is_above.true)).1)
 
 pub rows_above-requires : goal.rows_above-requires
 rows_above-requires c =
-    let pre = c.requires in let own = above_own _ (sym c.is_above.ensures ∙ c.if-is_above.true) in record {
-      own_bound = (own.0, role_as (sym own.1) pre.asks);
-      parents = pre.links.parents own.2;
+    let own = above_own _ (sym c.is_above.ensures ∙ c.if-is_above.true) in record {
+      own_bound = (own.0, role_as (sym own.1) c.requires.asks);
+      parents = c.args.walk.now.links.parents own.2;
     }
 
 pub returns-then-is_above : goal.returns-then-is_above
 returns-then-is_above c =
     let own = above_own _ (sym c.is_above.ensures ∙ c.if-is_above.true) in
-    record {
-      wrote = wrote_axis _ _ _ _ (sym own.1) c.rows_above.ensures;
+    let walk = c.args.walk.now in record {
+      wrote = wrote_axis walk.trees walk.test _ (sym own.1) c.rows_above.ensures;
       blank = c.requires.blank;
     }
 
-pub marked-used-requires : goal.marked-used-requires
-marked-used-requires c =
-    let pre = c.requires in record {
-      axis_value = marked_rest _ pre.known (sym c.is_ranged.ensures ∙ c.if-is_ranged.false)
-          (sym c.is_above.ensures ∙ c.if-is_above.false);
-      marks = record { shape = pre.asks.shape; contexts = pre.asks.contexts; blank = pre.blank };
-      parents = pre.links.parents;
-    }
+pub marked-requires : goal.marked-requires
+marked-requires c = record {
+  axis_value = marked_rest _ c.args.walk.now.known (sym c.is_ranged.ensures ∙ c.if-is_ranged.false)
+      (sym c.is_above.ensures ∙ c.if-is_above.false);
+  marks = record { contexts = c.requires.asks.contexts; blank = c.requires.blank };
+}
 
 pub drain-requires : goal.drain-requires
-drain-requires c =
-    let pre = c.requires in marked_drains c.marked-used.ensures pre.asks.shape.few pre.asks
+drain-requires c = marked_drains c.marked.ensures c.requires.asks
 
 pub returns : goal.returns
-returns c =
-    let pre = c.requires in record {
-      wrote =
-          wrote_as (marked_rows c.marked-used.ensures pre.asks.shape.few _)
-          c.drain.ensures.wrote;
-      blank = c.drain.ensures.blank;
-    }
+returns c = record {
+  wrote = wrote_as (marked_rows c.marked.ensures _) c.drain.ensures.wrote;
+  blank = c.drain.ensures.blank;
+}

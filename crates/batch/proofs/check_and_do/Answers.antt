@@ -2,9 +2,7 @@
 use mathlib.Core.Path.{sym, ◌∙◌}
 use native.Mathlib.Omega.{arith}
 use Rattle.tree.proofs.BatchRefusals.{good_list}
-use Rattle.keys.proofs.KeyLaws.{room_for}
 use Rattle.batch.proofs.CheckedLaws.{rows_sound, no_bad_row, row_refuses, list_refuses, items_leave}
-use borrow.Author.Rules.{rules}
 use Rattle.batch.proofs.check_and_do.Goals as goal
 
 pub returns-then-bad-count : goal.returns-then-bad-count
@@ -12,17 +10,17 @@ returns-then-bad-count c =
     rw c.nothing_done.ensures
     (row_refuses _ _ _ _ c.requires.in_use c.first_bad_in-bad.ensures.value c.if-bad-count.true)
 
-pub returns-in-Refused : goal.returns-in-Refused
-returns-in-Refused c =
-    rw c.nothing_done-in-Refused.ensures
+pub returns-in-Err : goal.returns-in-Err
+returns-in-Err c =
+    rw c.nothing_done-in-Err.ensures
     (list_refuses _ _ _ _ c.requires.in_use c.first_bad_in-bad.ensures.value c.if-bad-count.false
-    (sym c.check_list-checked.ensures ∙ c.in-Refused.is))
+    (sym c.check_list.ensures ∙ c.in-Err.is))
 
 pub do_items-requires : goal.do_items-requires
 do_items-requires c =
-    let good = (good_list _ _ _).0 (sym c.check_list-checked.ensures ∙ c.in_default.is) in record {
+    let good = (good_list _ _ _).0 (sym c.check_list.ensures ∙ c.in_default.is) in record {
       sound = rows_sound _ c.requires.in_use c.first_bad_in-bad.ensures.value c.if-bad-count.false;
-      chain_room = room_for _ _ _ _ _ _ _ c.requires.chain_room (search rules) (search rules) (omega arith);
+      in_room = omega (arith, c.requires.in_room, c.first_bad_in-bad.ensures.room);
       chained = c.first_bad_in-bad.ensures.chained_2 (no_bad_row _ c.first_bad_in-bad.ensures.value c.if-bad-count.false);
       good_list = good;
     }
@@ -30,4 +28,4 @@ do_items-requires c =
 pub returns : goal.returns
 returns c =
     items_leave _ _ _ _ c.requires.in_use c.first_bad_in-bad.ensures.value c.if-bad-count.false
-    (sym c.check_list-checked.ensures ∙ c.in_default.is) c.do_items.ensures
+    (sym c.check_list.ensures ∙ c.in_default.is) c.do_items.ensures

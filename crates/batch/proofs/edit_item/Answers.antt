@@ -28,4 +28,4 @@ returns-then-deletes c =
 pub returns : goal.returns
 returns c =
     rw (item_renames _ c.requires.sound c.args.item c.requires.row_value c.if-count-row.false c.if-deletes.false)
-    c.rename_row.ensures
+    c.rename_at.ensures

@@ -1,11 +1,6 @@
 -- `bounds::roles` meets its contract. The invariant: the roles of the first i places are counted. Assumes nothing.
-use Prim.Native.Nat.{◌-◌}
-use lib.ListN.{length}
 use Rattle.bounds.proofs.RoleBoundLaws.{Changed}
 use Rattle.bounds.proofs.roles.Given as goal
 
 abbrev pub invariant-loop-i : goal.invariant-loop-i
 invariant-loop-i l = Changed l.role l.found l.i
-
-abbrev pub decreases-loop-i : goal.decreases-loop-i
-decreases-loop-i l = length l.role - l.i

@@ -1,25 +1,19 @@
 -- `bounds::spans` meets its contract. The invariant: the rows before place i are added up. Assumes nothing.
-use mathlib.Core.Path.{refl}
 use native.Mathlib.Omega.{arith}
-use Rattle.bounds.proofs.SumLaws.{summed_start, summed_small, summed_more, summed_done}
+use Rattle.std.proofs.lemmas.List.Sums.{sum_by_more_le}
+use Rattle.bounds.specs.Bounds.{span_of}
 use Rattle.bounds.proofs.SpanBoundLaws.{span_small, spans_small}
 use Rattle.bounds.proofs.spans.Goals as goal
 
-pub loop-i-init : goal.loop-i-init
-loop-i-init c = summed_start
-
 pub overflow_add-sum : goal.overflow_add-sum
 overflow_add-sum c =
-    let f = c.requires in omega (arith, span_small f.shape _ (f.inside c.loop-i.i c.loop-i-test.true))
+    omega (arith, span_small c.args.trees.now.shape _ (c.requires.inside c.loop-c.c-index c.loop-c-test.true))
 
-pub overflow_add-sum-in-loop-i : goal.overflow_add-sum-in-loop-i
-overflow_add-sum-in-loop-i c =
-    let small = spans_small c.requires in
-    omega (arith, summed_small c.loop-i.invariant c.loop-i-test.true)
-
-pub loop-i-preserved : goal.loop-i-preserved
-loop-i-preserved c =
-    summed_more c.loop-i.invariant c.loop-i-test.true refl
-
-pub returns : goal.returns
-returns c = summed_done c.loop-i.invariant c.loop-i-test.false
+pub overflow_add-sum-in-loop-c : goal.overflow_add-sum-in-loop-c
+overflow_add-sum-in-loop-c c =
+    omega (
+      arith,
+      sum_by_more_le (span_of c.args.trees.now.size.now) c.args.row.now c.loop-c.c-index 0 c.loop-c-test.true,
+      spans_small c.requires,
+      c.loop-c.invariant,
+    )

@@ -9,22 +9,20 @@ use Rattle.bounds.proofs.PairBoundLaws.{rows_few, pairs_most}
 use Rattle.bounds.proofs.surely_fits.Goals as goal
 
 pub axis_fits-requires : goal.axis_fits-requires
-axis_fits-requires c = record {
-  few_rows = rows_few _ _ _ _ _ c.requires;
-  parents = c.requires.links.parents;
-}
+axis_fits-requires c =
+    record { few_rows = rows_few c.args.call.now; parents = c.args.call.now.ready.links.parents }
 
 pub returns-then-axis_fits : goal.returns-then-axis_fits
 returns-then-axis_fits c = λ e.
-    le_trans (pairs_most _ _ _ _ _ c.requires) (c.axis_fits.ensures c.if-axis_fits.true)
+    le_trans (pairs_most c.args.call.now.ready) (c.axis_fits.ensures c.if-axis_fits.true)
 
 pub overflow_mul-result : goal.overflow_mul-result
 overflow_mul-result c =
     let few : c.roles.result ≤ 4096 =
-    omega (arith, c.roles.ensures, roles_few c.args.role.now, (pairs_fit _ _ _ _ _ c.requires).few) in
-    omega (arith, mul-le-mul few c.requires.call.sound.in_use.few)
+    omega (arith, c.roles.ensures, roles_few c.args.call.now.role.now, (pairs_fit c.args.call.now.ready).few) in
+    omega (arith, mul-le-mul few c.args.call.now.trees.shape.few)
 
-pub returns : goal.returns
-returns c = λ e.
-    le_trans (roles_most _ _ _ _ (pairs_fit _ _ _ _ _ c.requires).even)
-    (rw c.roles.ensures at (leb-true (c.roles.result * c.args.count) c.args.room e))
+pub returns-else-axis_fits : goal.returns-else-axis_fits
+returns-else-axis_fits c = λ e.
+    le_trans (roles_most _ _ _ _ (pairs_fit c.args.call.now.ready).even)
+    (rw c.roles.ensures at (leb-true (c.roles.result * c.args.call.now.trees.count) c.args.room e))

@@ -1,5 +1,4 @@
--- `clash::chain` meets its contract: the first i rows are chained. Assumes nothing.
-use Prim.Native.Nat.{◌≤◌, ◌-◌}
+-- `clash::chain` meets its contract: the first i rows are chained, with room for as many as before. Assumes nothing.
 use mathlib.Core.Path.{◌≡◌}
 use lib.ListN.{length}
 use Rattle.keys.specs.Chain.{Chained}
@@ -7,7 +6,5 @@ use Rattle.clash.proofs.chain.Given as goal
 
 abbrev pub invariant-loop-i : goal.invariant-loop-i
 invariant-loop-i l =
-    (l.i ≤ l.n) × (length l.heads ≡ length l.initial.heads) × (length l.next ≡ length l.initial.next) × Chained l.shift l.key l.heads l.next l.i
-
-abbrev pub decreases-loop-i : goal.decreases-loop-i
-decreases-loop-i l = l.n - l.i
+    (length l.chains.next.now ≡ length l.initial.chains.next.now)
+    × Chained l.chains.shift l.key l.chains.heads.now l.chains.next.now l.i

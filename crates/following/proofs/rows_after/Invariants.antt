@@ -2,13 +2,12 @@
 -- Assumes nothing.
 use Prim.Native.Nat.{◌-◌}
 use lib.ListN.{length}
-use Rattle.scan.specs.Want.{fits}
 use Rattle.following.proofs.AfterLaws.{Turned}
 use Rattle.following.proofs.rows_after.Given as goal
 
 abbrev pub invariant-loop-i : goal.invariant-loop-i
 invariant-loop-i l =
-    Turned l.size l.level l.count (fits l.want l.kind l.name) l.rows l.initial.out l.top l.out l.next l.i
+    Turned l.trees l.test l.rows l.initial.out l.top l.out l.next l.i
 
 abbrev pub decreases-loop-i : goal.decreases-loop-i
 decreases-loop-i l = length l.rows - l.i

@@ -1,28 +1,21 @@
 -- `insert_at::insert_at` meets its contract: the checks, then the piece in its place. Assumes nothing.
-use mathlib.Core.Path.{◌≡◌, sym, ap, ◌∙◌}
+use mathlib.Core.Path.{sym, ap, ◌∙◌}
 use Prim.Native.Nat.{ℕ}
-use Rattle.tree.specs.Table.{Table, table_of}
+use Rattle.std.proofs.lemmas.Result.{err_from_is_err_and}
+use Rattle.tree.specs.Table.{Table, table_of, seen}
 use Rattle.tree.specs.Refusal.{insert_check}
-use Rattle.tree.specs.Outcome.{row_there}
 use Rattle.edit_at.proofs.OutcomeLaws.{leaves, own_refused}
 use Rattle.insert_at.proofs.insert_at.Goals as goal
-use Rattle.insert_at.proofs.insert_at.Goals.{After-check_piece-checked}
+use Rattle.insert_at.proofs.insert_at.Goals.{After-check_piece, Start}
 
--- the check is that of the row found
-checked : (c : After-check_piece-checked) → c.check_piece-checked.result ≡ insert_check
-    (table_of c.args.key.now c.args.size.now c.args.level.now c.args.kind.now c.args.name.now c.args.count)
-    (row_there c.args.located)
-    (table_of c.args.p_key.now c.args.p_size.now c.args.p_level.now c.args.p_kind.now c.args.p_name.now c.args.p_count)
-checked c =
-    c.check_piece-checked.ensures
-    ∙ ap (λ (r : ℕ). insert_check
-    (table_of c.args.key.now c.args.size.now c.args.level.now c.args.kind.now c.args.name.now c.args.count)
-    r
-    (table_of c.args.p_key.now c.args.p_size.now c.args.p_level.now c.args.p_kind.now c.args.p_name.now c.args.p_count))
-    c.row_there-row.ensures
+-- the table that was lent
+abbrev lent : Start → Table
+lent s =
+    table_of s.args.key.now s.args.size.now s.args.level.now s.args.kind.now s.args.name.now s.args.count
 
-pub returns-in-Refused : goal.returns-in-Refused
-returns-in-Refused c =
-    let lent : Table = table_of c.args.key.now c.args.size.now c.args.level.now c.args.kind.now c.args.name.now c.args.count in
-    leaves lent (own_refused _ _ lent
-    (sym (checked (goal.at.returns-in-Refused c).After-check_piece-checked) ∙ c.in-Refused.is))
+pub returns-in_err-check_piece : goal.returns-in_err-check_piece
+returns-in_err-check_piece c =
+    let t : Table = lent (goal.at.returns-in_err-check_piece c).Start in
+    let check = c.check_piece.ensures ∙ ap (λ (r : ℕ). insert_check t r (seen c.args.piece.now)) c.row_there-row.ensures in
+    let p = err_from_is_err_and c.from_residual.result c.from_residual.ensures.1 in
+    rw (p.1, p.2) (leaves t (own_refused _ _ t (sym check ∙ c.in_err-check_piece.was)))

@@ -31,9 +31,12 @@ returns-in-8 c =
     c.kept_trees.ensures ∙ kept_aside _ _ (omega arith) (omega arith)
 
 pub returns-in_default : goal.returns-in_default
-returns-in_default c = elim c.in_default.branch [
-  | in_default-via-then-axis-lt3 w ↦ c.kept_distinct.ensures ∙ kept_plain c.args.level.now c.args.rows.now {axis = c.args.axis} (inl (omega arith))
-  | in_default-via-else-axis-lt3+else-axis-lt5+then-axis-lt6 w ↦ c.kept_distinct.ensures ∙ kept_plain c.args.level.now c.args.rows.now {axis = c.args.axis} (inr (inl (omega arith)))
-  | in_default-via-else-axis-lt3+else-axis-lt5+else-axis-lt6+else-axis-lt8+else-axis-lt10 w ↦
-      c.kept_distinct.ensures ∙ kept_plain c.args.level.now c.args.rows.now {axis = c.args.axis} (inr (inr (omega arith)))
-]
+returns-in_default c =
+    let plain = kept_plain c.args.trees.now.level.now c.args.rows.now {axis = c.args.axis} in
+    elim c.in_default.branch [
+      | in_default-via-then-axis-lt3 w ↦ c.kept_distinct.ensures ∙ plain (inl (omega arith))
+      | in_default-via-else-axis-lt3+else-axis-lt5+then-axis-lt6 w ↦
+          c.kept_distinct.ensures ∙ plain (inr (inl (omega arith)))
+      | in_default-via-else-axis-lt3+else-axis-lt5+else-axis-lt6+else-axis-lt8+else-axis-lt10 w ↦
+          c.kept_distinct.ensures ∙ plain (inr (inr (omega arith)))
+    ]

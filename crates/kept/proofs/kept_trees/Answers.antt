@@ -14,9 +14,10 @@ loop-i-init c =
 
 pub loop-i-preserved : goal.loop-i-preserved
 loop-i-preserved c =
+    let p = c.requires.kept_in.0 in let r = c.requires.roots in let v = c.loop-i.invariant in
     elim c.if-top-before.branch [
-      | then-top-before w ↦ rw w.kept-is (trees_count c.requires.kept_in.0 c.requires.roots c.loop-i.invariant c.loop-i-test.true w.if-top-before.true)
-      | else-top-before w ↦ rw w.kept-is (trees_skip c.requires.kept_in.0 c.requires.roots c.loop-i.invariant c.loop-i-test.true w.if-top-before.false)
+      | then-top-before w ↦ rw w.kept-is (trees_count p r v c.loop-i-test.true w.if-top-before.true)
+      | else-top-before w ↦ rw w.kept-is (trees_skip p r v c.loop-i-test.true w.if-top-before.false)
     ]
 
 pub returns : goal.returns

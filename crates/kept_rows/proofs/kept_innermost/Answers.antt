@@ -10,11 +10,12 @@ use Rattle.kept_rows.proofs.kept_innermost.Goals as goal
 use Rattle.kept_rows.proofs.kept_innermost.Goals.{In-loop-i, else-c-size, then-c-size}
 
 -- the context and its descendants are rows in use, of which there are few
-inside : (c : In-loop-i) → (let w = at c.args.rows.now (c.loop-i.i - 1) in
-    (w + at c.args.size.now w < c.args.count) × (c.args.count ≤ 4096) × (c.args.count ≤ length c.args.size.now))
+inside : (c : In-loop-i) → (let a = c.args in let w = at a.rows.now (c.loop-i.i - 1) in
+    (w + at a.trees.now.size.now w < a.trees.now.count) × (a.trees.now.count ≤ 4096)
+    × (a.trees.now.count ≤ length a.trees.now.size.now))
 inside c =
-    let p = c.requires.0 in let l = p.contexts.inside (c.loop-i.i - 1) (omega arith) in
-    (shape_fits p.shape _ l, p.shape.few, p.shape.in_size)
+    let s = c.args.trees.now.shape in
+    (shape_fits s _ (c.requires.0.contexts.inside (c.loop-i.i - 1) (omega arith)), s.few, s.in_size)
 
 pub loop-i-init : goal.loop-i-init
 loop-i-init c = pass_start 6 c.requires.0 c.requires.1

@@ -1,19 +1,16 @@
 -- `later::group_siblings` meets its contract. Assumes nothing.
-use mathlib.Core.Path.{refl}
-use native.Mathlib.Omega.{arith}
-use Rattle.tree.specs.Axis.{axis_ok}
-use Rattle.links.proofs.LinkAxisLaws.{siblings_climb, climbs_aside}
+use Rattle.axis.proofs.RoleAxisLaws.{role_as, wrote_axis}
 use Rattle.later.proofs.group_siblings.Goals as goal
 
-pub one_role-requires : goal.one_role-requires
-unfolding axis_ok
-one_role-requires c =
-    record {
-      known = refl;
-      asks = c.requires.role_in;
-      links = record {
-        parents = λ _. c.requires.rows_nonzero.1;
-        roots = λ e. absurd (climbs_aside 10 (siblings_climb _ (omega arith) (omega arith)) e);
-      };
-      blank = c.requires.rows_nonzero.2;
-    }
+pub siblings_of_first-requires : goal.siblings_of_first-requires
+siblings_of_first-requires c = record {
+  ten = c.requires.ten.0;
+  role_in = role_as c.requires.ten.0 c.requires.role_ask.asks;
+  one_parent = c.have_one_parent.ensures c.if-have_one_parent.true;
+}
+
+pub returns-then-have_one_parent : goal.returns-then-have_one_parent
+returns-then-have_one_parent c = let walk = c.args.walk.now in record {
+  wrote = wrote_axis walk.trees walk.test _ c.requires.ten.0 c.siblings_of_first.ensures;
+  blank = c.requires.role_ask.blank;
+}

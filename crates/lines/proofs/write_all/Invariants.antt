@@ -2,17 +2,13 @@
 -- their kept pairs are counted. Assumes nothing.
 use Prim.Native.Nat.{◌-◌}
 use lib.ListN.{length}
-use Rattle.tree.specs.Table.{table_of}
 use Rattle.lines.proofs.WrittenLaws.{Written}
 use Rattle.lines.proofs.KeptRunLaws.{Keeping}
 use Rattle.lines.proofs.write_all.Given as goal
 
 abbrev pub invariant-loop-i : goal.invariant-loop-i
 invariant-loop-i l =
-    Written (table_of l.key l.size l.level l.kind l.name l.count) l.ask l.role l.row
-    l.initial.out_role l.initial.out_row l.words l.out_role l.out_row l.m l.i
-    × Keeping l.ask.axis l.level l.role l.row l.kept l.i
+    Written l.call l.initial.out_role l.initial.out_row l.set l.out_role l.out_row l.m l.i × Keeping l.call l.kept l.i
 
 abbrev pub decreases-loop-i : goal.decreases-loop-i
-decreases-loop-i l =
-    length l.role - l.i
+decreases-loop-i l = length l.role - l.i

@@ -7,6 +7,6 @@ pub returns-then-l-eq0 : goal.returns-then-l-eq0
 unfolding above_of
 returns-then-l-eq0 c = simp (eq-eqb _ _ c.if-l-eq0.true)
 
-pub returns : goal.returns
+pub returns-else-l-eq0 : goal.returns-else-l-eq0
 unfolding above_of
-returns c = simp (ne_eqb _ _ c.if-l-eq0.false)
+returns-else-l-eq0 c = simp (ne_eqb _ _ c.if-l-eq0.false)

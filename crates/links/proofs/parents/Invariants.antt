@@ -1,11 +1,7 @@
 -- `links::parents` meets its contract. The loop's invariant, `Opened`: the rows before i have their parents,
 -- and at each level up to that of the row before i the path has the last row of that level. Assumes nothing.
-use Prim.Native.Nat.{◌-◌}
 use Rattle.links.proofs.ParentPassLaws.{Opened}
 use Rattle.links.proofs.parents.Given as goal
 
 abbrev pub invariant-loop-i : goal.invariant-loop-i
-invariant-loop-i l = Opened l.level l.count l.all l.path l.i
-
-abbrev pub decreases-loop-i : goal.decreases-loop-i
-decreases-loop-i l = l.count - l.i
+invariant-loop-i l = Opened l.level l.trees.count l.all l.path l.i

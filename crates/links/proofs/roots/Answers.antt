@@ -5,15 +5,14 @@ use Rattle.tree.proofs.SoundLaws.{shape_fits}
 use Rattle.links.proofs.RootedLaws.{rooted_next, rooted_lone}
 use Rattle.links.proofs.roots.Goals as goal
 
-pub overflow_add-size : goal.overflow_add-size
-overflow_add-size c =
-    let h = c.requires.shape in omega (arith, shape_fits h 0 h.some, h.few)
+pub overflow_add-trees : goal.overflow_add-trees
+overflow_add-trees c =
+    let s = c.args.trees.now.shape in omega (arith, shape_fits s 0 s.some, s.few)
 
-pub returns-then-size-count : goal.returns-then-size-count
-returns-then-size-count c =
-    rooted_lone c.requires.shape c.args.up.now c.requires.zeros c.if-size-count.true
+pub returns-then-trees : goal.returns-then-trees
+returns-then-trees c =
+    rooted_lone c.args.trees.now.shape c.args.up.now c.requires c.if-trees.true
 
 pub loop-i-preserved : goal.loop-i-preserved
 loop-i-preserved c =
-    rooted_next c.requires.shape c.loop-i.invariant
-    c.loop-i-test.true c.root_at-root.ensures
+    rooted_next c.args.trees.now.shape c.loop-i.invariant c.loop-i-test.true c.root_at-root.ensures

@@ -12,30 +12,26 @@ pub bounds-rows-0 : goal.bounds-rows-0
 bounds-rows-0 c = omega (arith, lone_one c.requires)
 
 pub write_path-requires : goal.write_path-requires
-write_path-requires c =
-    lone_above_asks c.requires c.in-6.is
+write_path-requires c = lone_above_asks c.requires c.in-6.is
+
+pub returns-in-6 : goal.returns-in-6
+returns-in-6 c = wrote_as (sym (lone_above_rows c.requires c.in-6.is)) c.write_path.ensures
 
 pub write_path-requires-in-7 : goal.write_path-requires-in-7
-write_path-requires-in-7 c =
-    lone_selves_asks c.requires c.in-7.is
+write_path-requires-in-7 c = lone_selves_asks c.requires c.in-7.is
+
+pub returns-in-7 : goal.returns-in-7
+returns-in-7 c = wrote_as (sym (lone_selves_rows c.requires c.in-7.is)) c.write_path-in-7.ensures
 
 pub returns-then-q-eq0 : goal.returns-then-q-eq0
-returns-then-q-eq0 c =
-    let other = c.in_default.in_default-own.rest in lone_parent_none c.requires other.1 other.0.1 c.if-q-eq0.true
+returns-then-q-eq0 c = lone_parent_none c.requires (λ z. omega arith) (λ z. omega arith) c.if-q-eq0.true
 
 pub emit_one-requires : goal.emit_one-requires
 emit_one-requires c =
-    let other = c.in_default.in_default-own.rest in let q = c.if-q-eq0.false in (omega arith, lone_parent_asks c.requires other.1 other.0.1 _ (omega arith))
-
-pub returns-in-6 : goal.returns-in-6
-returns-in-6 c =
-    wrote_as (sym (lone_above_rows c.requires c.in-6.is)) c.write_path.ensures
-
-pub returns-in-7 : goal.returns-in-7
-returns-in-7 c =
-    wrote_as (sym (lone_selves_rows c.requires c.in-7.is)) c.write_path-in-7.ensures
+    let q = c.if-q-eq0.false in
+    (omega arith, lone_parent_asks c.requires (λ z. omega arith) (λ z. omega arith) _ (omega arith))
 
 pub returns-else-q-eq0 : goal.returns-else-q-eq0
 returns-else-q-eq0 c =
-    let other = c.in_default.in_default-own.rest in let q = c.if-q-eq0.false in lone_parent_done c.requires other.1 other.0.1 _ (omega arith)
-    c.emit_one.ensures
+    let q = c.if-q-eq0.false in
+    lone_parent_done c.requires (λ z. omega arith) (λ z. omega arith) _ (omega arith) c.emit_one.ensures

@@ -10,7 +10,7 @@ overflow_sub-v c = path_some c.requires c.loop-k.invariant c.loop-k-test.true
 
 pub loop-k-preserved : goal.loop-k-preserved
 loop-k-preserved c =
-    let more = c.loop-k-test.true in let some = path_some c.requires c.loop-k.invariant more in
+    let some = path_some c.requires c.loop-k.invariant c.loop-k-test.true in
     path_next c.requires c.loop-k.invariant (c.loop-k.k - 1) (c.loop-k.at - 1) (omega arith) (omega arith)
 
 pub returns : goal.returns

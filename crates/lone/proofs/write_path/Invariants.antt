@@ -4,7 +4,4 @@ use Rattle.lone.proofs.PathLaws.{PathLeft}
 use Rattle.lone.proofs.write_path.Given as goal
 
 abbrev pub invariant-loop-k : goal.invariant-loop-k
-invariant-loop-k l = PathLeft l.level l.count l.link l.initial.out l.out l.at l.k
-
-abbrev pub decreases-loop-k : goal.decreases-loop-k
-decreases-loop-k l = l.k
+invariant-loop-k l = PathLeft l.trees l.link l.initial.out l.out l.at l.k

@@ -9,13 +9,12 @@ use Rattle.pairs_left.proofs.count_left.Goals as goal
 pub returns-then-first-to : goal.returns-then-first-to
 returns-then-first-to c = left_whole _ _ c.if-first-to.true _
 
-pub loop-i-init : goal.loop-i-init
-loop-i-init c = (search rules, search rules, sym (left_none _ _ c.args.row.now))
+pub loop-w-init : goal.loop-w-init
+loop-w-init c = (search rules, sym (left_none _ _ c.args.row.now))
 
-pub loop-i-preserved : goal.loop-i-preserved
-loop-i-preserved c =
-    let row = c.args.row.now in let here = left_next _ _ row c.loop-i.i c.loop-i-test.true in (
-      search rules,
-      omega (arith, c.stays-left.ensures.small, c.loop-i.invariant.1),
-      ap₂ (λ (a b : ℕ). a + b) c.loop-i.invariant.2 c.stays-left.ensures.counted ∙ sym here,
+pub loop-w-preserved : goal.loop-w-preserved
+loop-w-preserved c =
+    let row = c.args.row.now in let here = left_next _ _ row c.loop-w.w-index c.loop-w-test.true in (
+      omega (arith, c.stays-left.ensures.small, c.loop-w.invariant.0),
+      ap₂ (λ (a b : ℕ). a + b) c.loop-w.invariant.1 c.stays-left.ensures.counted ∙ sym here,
     )

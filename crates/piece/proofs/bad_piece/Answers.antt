@@ -1,29 +1,30 @@
 -- `piece::bad_piece` meets its contract. Assumes nothing.
-use mathlib.Core.Path.{◌≡◌, sym, ◌∙◌}
+use mathlib.Core.Path.{◌≡◌, sym, ap, ◌∙◌}
 use native.Mathlib.Omega.{arith}
-use Rattle.tree.specs.Table.{table_of}
+use Rattle.std.specs.Prelude.{is_err}
+use Rattle.tree.specs.Table.{seen}
+use Rattle.tree.specs.Refusal.{passed}
 use Rattle.tree.specs.Outcome.{check_outcome}
-use Rattle.tree.specs.declared.Checked.TheVariants.{Passed}
-use Rattle.piece.proofs.PieceLaws.{piece_refused, piece_passed, piece_rows}
+use Rattle.piece.proofs.PieceLaws.{no_error, piece_refused, piece_passed, piece_rows}
 use Rattle.piece.proofs.bad_piece.Goals as goal
-use Rattle.piece.proofs.bad_piece.Goals.{In_default, Start}
+use Rattle.piece.proofs.bad_piece.Goals.{Else-is_err}
 
 -- the piece passed
-passed : (c : In_default) → check_outcome (table_of c.args.key.now c.args.size.now c.args.level.now c.args.kind.now c.args.name.now
-    c.args.count) ≡ Passed
-passed c = sym c.check-checked.ensures ∙ c.in_default.is
+good : (c : Else-is_err) → check_outcome (seen c.args.piece.now) ≡ passed
+good c = sym c.check_columns.ensures ∙ no_error _ (sym c.is_err.ensures.value ∙ c.if-is_err.false)
 
-pub returns-in-Refused : goal.returns-in-Refused
-returns-in-Refused c = piece_refused _ (sym c.check-checked.ensures ∙ c.in-Refused.is)
+pub returns-then-is_err : goal.returns-then-is_err
+returns-then-is_err c =
+    piece_refused _ (ap is_err (sym c.check_columns.ensures) ∙ sym c.is_err.ensures.value ∙ c.if-is_err.true)
 
 pub bounds-kind-0 : goal.bounds-kind-0
-bounds-kind-0 c = (piece_rows _ (passed (goal.at.bounds-kind-0 c).In_default)).0
+bounds-kind-0 c = (piece_rows _ (good (goal.at.bounds-kind-0 c).Else-is_err)).0
 
 pub bounds-size-0 : goal.bounds-size-0
-bounds-size-0 c = (piece_rows _ (passed (goal.at.bounds-size-0 c).In_default)).1
+bounds-size-0 c = (piece_rows _ (good (goal.at.bounds-size-0 c).Else-is_err)).1
 
 pub overflow_add-size : goal.overflow_add-size
-overflow_add-size c = let r = piece_rows _ (passed (goal.at.overflow_add-size c).In_default) in omega arith
+overflow_add-size c = let r = piece_rows _ (good (goal.at.overflow_add-size c).Else-is_err) in omega arith
 
 pub returns : goal.returns
-returns c = c.either.ensures ∙ piece_passed _ (passed (goal.at.returns c).In_default)
+returns c = c.either.ensures ∙ piece_passed _ (good (goal.at.returns c).Else-is_err)

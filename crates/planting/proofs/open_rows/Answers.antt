@@ -1,7 +1,7 @@
 -- `planting::open_rows` meets its contract: the sizes from the row up rise, then a gap opens in each column.
 -- Assumes nothing.
 use native.Mathlib.Omega.{arith}
-use Rattle.tree.specs.Table.{Table, table_of}
+use Rattle.tree.specs.Table.{Table, table_of, seen}
 use Rattle.edit_at.proofs.FoundLaws.{found_stands}
 use Rattle.planting.proofs.InsertLaws.{Room, room, insert_made}
 use Rattle.planting.proofs.open_rows.Goals as goal
@@ -15,16 +15,13 @@ lent s =
 
 abbrev piece : Start → Table
 piece s =
-    table_of s.args.p_key.now s.args.p_size.now s.args.p_level.now s.args.p_kind.now
-    s.args.p_name.now s.args.p_count
+    seen s.args.piece.now
 
 -- what the piece that fits tells of the columns
 fits : (c : After-row_there-row) → Room (table_of c.args.key.now c.args.size.now c.args.level.now c.args.kind.now c.args.name.now
-    c.args.count) c.row_there-row.result (table_of c.args.p_key.now c.args.p_size.now c.args.p_level.now c.args.p_kind.now
-    c.args.p_name.now c.args.p_count)
+    c.args.count) c.row_there-row.result (seen c.args.piece.now)
 fits c = room (table_of c.args.key.now c.args.size.now c.args.level.now c.args.kind.now c.args.name.now
-    c.args.count) c.args.located (table_of c.args.p_key.now c.args.p_size.now c.args.p_level.now c.args.p_kind.now
-    c.args.p_name.now c.args.p_count) c.requires _ c.row_there-row.ensures
+    c.args.count) c.args.located (seen c.args.piece.now) c.requires _ c.row_there-row.ensures
 
 pub overflow_add-gap : goal.overflow_add-gap
 overflow_add-gap c =

@@ -1,10 +1,10 @@
 -- `reach_c::reach_find` meets its contract: the library's answer, put into C's struct. Assumes nothing.
 use mathlib.Core.Path.{sym, subst}
 use Prim.Native.Nat.{◌≤◌}
-use Rattle.tree.specs.declared.Found.{Found}
 use Rattle.answer.specs.Found.{parent_found}
 use Rattle.reach_c.proofs.FindAnswerLaws.{parent_small}
 use Rattle.reach_c.proofs.reach_find.Goals as goal
+use Rattle.tree.specs.Outcome.{Found}
 
 pub of_find-requires : goal.of_find-requires
 of_find-requires c =

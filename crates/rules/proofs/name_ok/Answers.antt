@@ -1,16 +1,16 @@
 -- `rules::name_ok` meets its contract, kind by kind. Assumes nothing.
-use borrow.Author.Tests.{ne_eqb, eq-eqb}
+use mathlib.Core.Path.{◌≡◌}
+use mathlib.Core.Logic.{inl, inr, ⊎_elim}
+use borrow.Author.Tests.{ne_eqb}
 use Rattle.tree.specs.Sound.{name_ok, has_name}
 use Rattle.rules.proofs.name_ok.Goals as goal
 
-pub returns-then-kind-eq1 : goal.returns-then-kind-eq1
+pub returns-in-1 : goal.returns-in-1
 unfolding name_ok has_name
-returns-then-kind-eq1 c = simp (eq-eqb _ _ c.if-kind-eq1.true)
+returns-in-1 c = ⊎_elim (λ (one : c.args.kind ≡ 1). simp one) (λ (four : c.args.kind ≡ 4). simp four) c.in-1.is
 
-pub returns-then-kind-eq4 : goal.returns-then-kind-eq4
+pub returns-in_default : goal.returns-in_default
 unfolding name_ok has_name
-returns-then-kind-eq4 c = simp (ne_eqb _ _ c.if-kind-eq1.false, eq-eqb _ _ c.if-kind-eq4.true)
-
-pub returns : goal.returns
-unfolding name_ok has_name
-returns c = simp (ne_eqb _ _ c.if-kind-eq1.false, ne_eqb _ _ c.if-kind-eq4.false)
+returns-in_default c =
+    let other = c.in_default.in_default-own.rest.1 in
+    simp (ne_eqb c.args.kind 1 (λ e. other (inl e)), ne_eqb c.args.kind 4 (λ e. other (inr e)))

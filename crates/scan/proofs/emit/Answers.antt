@@ -16,15 +16,15 @@ pub scan_named-requires : goal.scan_named-requires
 scan_named-requires c =
     let s = c in
     let a = s.args in
-    let p = part_length a.kind.now a.from a.to s.requires.in_kind in
-    let q = part_length a.name.now a.from a.to s.requires.in_name in
+    let p = part_length a.test.now.kind.now a.from a.to s.requires.in_kind in
+    let q = part_length a.test.now.name.now a.from a.to s.requires.in_name in
     (omega arith, range_asks s.requires p (fits_part _ _ _ _ _) (low (goal.at.scan_named-requires s).Start))
 
 pub returns-then-want-ne0 : goal.returns-then-want-ne0
 returns-then-want-ne0 c =
     let s = c in
     let a = s.args in
-    range_gives s.requires (part_length a.kind.now a.from a.to s.requires.in_kind) (fits_part _ _ _ _ _)
+    range_gives s.requires (part_length a.test.now.kind.now a.from a.to s.requires.in_kind) (fits_part _ _ _ _ _)
     c.scan_named.ensures
 
 pub scan_kind-requires : goal.scan_kind-requires
@@ -32,7 +32,7 @@ scan_kind-requires c =
     let s = c in
     let a = s.args in
     let t = c in
-    range_asks s.requires (part_length a.kind.now a.from a.to s.requires.in_kind)
+    range_asks s.requires (part_length a.test.now.kind.now a.from a.to s.requires.in_kind)
     (λ i l. fits_part_kind _ _ _ _ _ i l t.if-want-ne5.true t.if-want-ne0.false) (low (goal.at.scan_kind-requires s).Start)
 
 pub returns-then-want-ne5 : goal.returns-then-want-ne5
@@ -40,7 +40,7 @@ returns-then-want-ne5 c =
     let s = c in
     let a = s.args in
     let t = c in
-    range_gives s.requires (part_length a.kind.now a.from a.to s.requires.in_kind)
+    range_gives s.requires (part_length a.test.now.kind.now a.from a.to s.requires.in_kind)
     (λ i l. fits_part_kind _ _ _ _ _ i l t.if-want-ne5.true t.if-want-ne0.false)
     c.scan_kind.ensures
 

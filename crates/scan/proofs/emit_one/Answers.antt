@@ -10,14 +10,14 @@ returns-then-to-from c = one_none c.requires.1 c.if-to-from.true
 pub bounds-out-written : goal.bounds-out-written
 bounds-out-written c =
     let t = c in
-    one_room t.requires.1 t.if-to-from.false t.requires.0 (sym t.fits_row.ensures ∙ c.if-fits_row.true)
+    one_room t.requires.1 t.if-to-from.false t.requires.0 (sym t.fits.ensures ∙ c.if-fits.true)
 
-pub returns-then-fits_row : goal.returns-then-fits_row
-returns-then-fits_row c =
+pub returns-then-fits : goal.returns-then-fits
+returns-then-fits c =
     let t = c in
-    one_yes t.requires.1 t.if-to-from.false t.requires.0 (sym t.fits_row.ensures ∙ c.if-fits_row.true)
+    one_yes t.requires.1 t.if-to-from.false t.requires.0 (sym t.fits.ensures ∙ c.if-fits.true)
 
 pub returns : goal.returns
 returns c =
     let t = c in
-    one_no t.requires.1 t.if-to-from.false t.requires.0 (sym t.fits_row.ensures ∙ c.if-fits_row.false)
+    one_no t.requires.1 t.if-to-from.false t.requires.0 (sym t.fits.ensures ∙ c.if-fits.false)

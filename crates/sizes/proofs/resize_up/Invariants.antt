@@ -5,6 +5,3 @@ use Rattle.sizes.proofs.resize_up.Given as goal
 
 abbrev pub invariant-loop-up : goal.invariant-loop-up
 invariant-loop-up l = Going l.level l.count l.initial.size l.row l.more l.less l.size l.i l.up
-
-abbrev pub decreases-loop-up : goal.decreases-loop-up
-decreases-loop-up l = l.up

@@ -7,32 +7,33 @@ use Rattle.tree.specs.Table.{at}
 use Rattle.tree.proofs.SoundLaws.{shape_fits}
 use Rattle.span.proofs.SpanLaws.{Spans, below_spans, turn_start, turn_asks, turn_next, turn_done}
 use Rattle.span.proofs.rows_below.Goals as goal
-use Rattle.span.proofs.rows_below.Goals.{In-loop-i, Start}
+use Rattle.span.proofs.rows_below.Goals.{In-loop-c, Start}
 
 -- the rows below a context are a range
 abbrev spans : (h : Start) → (let a = h.args in
-    Spans (4 - a.first) a.level.now a.count (λ c. c + a.first) (λ c. c + at a.size.now c))
-spans h = below_spans h.requires.1.shape h.args.first h.requires.0
+    Spans (4 - a.first) a.trees.now.level.now a.trees.now.count (λ c. c + a.first) (λ c. c + at a.trees.now.size.now c))
+spans h = below_spans h.args.trees.now.shape h.args.first h.requires.0
 
 -- the rows of the context are rows in use, of which there are few
-inside : (c : In-loop-i) → (let a = c.args in
-    let w = at a.rows.now c.loop-i.i in
-    (w + at a.size.now w < a.count) × (a.count ≤ 4096) × (a.count ≤ length a.size.now))
+inside : (c : In-loop-c) → (let a = c.args in
+    let w = at a.rows.now c.loop-c.c-index in
+    (w + at a.trees.now.size.now w < a.trees.now.count) × (a.trees.now.count ≤ 4096) × (a.trees.now.count ≤ length a.trees.now.size.now))
 inside c =
     let p = c.requires.1 in
-    let m = p.contexts.inside c.loop-i.i c.loop-i-test.true in
-    (shape_fits p.shape _ m, p.shape.few, p.shape.in_size)
+    let m = p.contexts.inside c.loop-c.c-index c.loop-c-test.true in
+    let s = c.args.trees.now.shape in
+    (shape_fits s _ m, s.few, s.in_size)
 
-pub loop-i-init : goal.loop-i-init
-loop-i-init c =
+pub loop-c-init : goal.loop-c-init
+loop-c-init c =
     let h = c in
-    turn_start h.requires.1 (spans (goal.at.loop-i-init h).Start)
+    turn_start h.requires.1 (spans (goal.at.loop-c-init h).Start)
 
-pub overflow_add-c-in-loop-i : goal.overflow_add-c-in-loop-i
-overflow_add-c-in-loop-i c = omega (arith, inside (goal.at.overflow_add-c-in-loop-i c).In-loop-i)
+pub overflow_add-c-in-loop-c : goal.overflow_add-c-in-loop-c
+overflow_add-c-in-loop-c c = omega (arith, inside (goal.at.overflow_add-c-in-loop-c c).In-loop-c)
 
-pub overflow_add-c-in-loop-i-2 : goal.overflow_add-c-in-loop-i-2
-overflow_add-c-in-loop-i-2 c = omega (arith, inside (goal.at.overflow_add-c-in-loop-i-2 c).In-loop-i)
+pub overflow_add-c-in-loop-c-2 : goal.overflow_add-c-in-loop-c-2
+overflow_add-c-in-loop-c-2 c = omega (arith, inside (goal.at.overflow_add-c-in-loop-c-2 c).In-loop-c)
 
 pub emit-next-requires : goal.emit-next-requires
 emit-next-requires c =
@@ -40,19 +41,19 @@ emit-next-requires c =
     let u = t in
     let l = u in
     let s = l in
-    turn_asks s.requires.1 (spans (goal.at.emit-next-requires s).Start) s.loop-i.invariant l.loop-i-test.true
+    turn_asks s.requires.1 (spans (goal.at.emit-next-requires s).Start) s.loop-c.invariant l.loop-c-test.true
     u.greater-from.ensures t.greater-to.ensures
 
-pub loop-i-preserved : goal.loop-i-preserved
-loop-i-preserved c =
+pub loop-c-preserved : goal.loop-c-preserved
+loop-c-preserved c =
     let t = c in
     let u = t in
     let l = u in
     let s = l in
-    turn_next s.requires.1 (spans (goal.at.loop-i-preserved s).Start) s.loop-i.invariant l.loop-i-test.true
+    turn_next s.requires.1 (spans (goal.at.loop-c-preserved s).Start) s.loop-c.invariant l.loop-c-test.true
     u.greater-from.ensures t.greater-to.ensures c.emit-next.ensures
 
 pub returns : goal.returns
 returns c =
     let s = c in
-    turn_done s.requires.1 (spans (goal.at.returns s).Start) s.loop-i.invariant c.loop-i-test.false
+    turn_done s.requires.1 (spans (goal.at.returns s).Start) s.loop-c.invariant c.loop-c-test.false

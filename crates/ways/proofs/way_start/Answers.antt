@@ -6,7 +6,7 @@ use Rattle.ways.proofs.way_start.Goals as goal
 pub returns-then-own-eq0 : goal.returns-then-own-eq0
 unfolding way_start
 returns-then-own-eq0 c =
-    let pre = c.requires in rw (eq-eqb _ 0 c.if-own-eq0.true) (pre.2.parents _ pre.0)
+    rw (eq-eqb _ 0 c.if-own-eq0.true) (c.requires.1.parents _ c.requires.0)
 
 pub returns : goal.returns
 unfolding way_start

@@ -10,9 +10,9 @@ returns-then-q-eq0 c = earlier_none c.requires c.if-q-eq0.true
 
 pub append_children-requires : goal.append_children-requires
 append_children-requires c =
-    earlier_asks c.requires refl (omega (arith, c.if-q-eq0.false)) c.greater.ensures
+    earlier_asks c.requires refl (omega (arith, c.if-q-eq0.false)) c.max.ensures
 
 pub returns : goal.returns
 returns c =
-    earlier_done c.requires refl (omega (arith, c.if-q-eq0.false)) c.greater.ensures
+    earlier_done c.requires refl (omega (arith, c.if-q-eq0.false)) c.max.ensures
     c.append_children.ensures

@@ -14,4 +14,5 @@ add_children-requires c =
 
 pub returns : goal.returns
 returns c =
-    earlier_done c.requires.turn _ (turn_parent c.requires.turn c.requires.parents c.if-q-eq0.false) c.add_children.ensures
+    earlier_done c.requires.turn _ (turn_parent c.requires.turn c.requires.parents c.if-q-eq0.false)
+    c.add_children.ensures

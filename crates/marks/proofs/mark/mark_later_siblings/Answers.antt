@@ -1,8 +1,7 @@
 -- `marks::mark::mark_later_siblings` meets its contract. The loop's invariant: what the first i contexts reach is in.
 -- Assumes nothing.
-use native.Mathlib.Omega.{arith}
 use Rattle.marks.proofs.ContextLaws.{marks_first}
 use Rattle.marks.proofs.mark.mark_later_siblings.Goals as goal
 
 pub loop-i-init : goal.loop-i-init
-loop-i-init c = (omega arith, marks_first 10 c.requires.marks)
+loop-i-init c = marks_first 10 c.requires.marks

@@ -12,7 +12,7 @@ returns-then-q-eq0 c =
 pub add-requires : goal.add-requires
 add-requires c =
     let e = turn_parent c.requires.turn c.requires.parents c.if-q-eq0.false in
-    (omega (arith, parent_below _ _ _ e, turn_row c.requires.turn, c.requires.turn.shape.few), c.requires.turn.marked.set)
+    omega (arith, parent_below _ _ _ e, turn_row c.requires.turn, c.args.trees.now.shape.few)
 
 pub returns : goal.returns
 returns c =

@@ -8,51 +8,51 @@ use lib.ListN.{length}
 use Rattle.marks.proofs.BitsLeftLaws.{left_high, left_set}
 use Rattle.marks.proofs.WordLaws.{word_start, word_done, word_length, word_index, word_no, word_yes}
 use Rattle.marks.proofs.row_set.drain_word.Goals as goal
-use Rattle.marks.proofs.row_set.drain_word.Goals.{At-loop-rest, In-loop-rest, Then-fits_row, else-fits_row, then-fits_row}
+use Rattle.marks.proofs.row_set.drain_word.Goals.{At-loop-rest, In-loop-rest, Then-fits, else-fits, then-fits}
 
 -- the lowest bit is one of the 64
 high : (c : In-loop-rest) → count_trailing_zeros 64 c.loop-rest.rest < 64
 high c = left_high c.loop-rest.invariant.left c.loop-rest-test.true
 
 -- out keeps its length
-whole : (s : At-loop-rest)
-    → length s.loop-rest.out ≡ length s.args.out.now
-whole s = word_length _ _ _ _ s.loop-rest.invariant s.requires.room
+whole : (c : At-loop-rest) → length c.loop-rest.out ≡ length c.args.out.now
+whole c = word_length _ _ _ _ c.loop-rest.invariant c.requires.room
 
 -- at a row that fits there is room for it
-written : (c : Then-fits_row)
-    → c.loop-rest.at < length c.loop-rest.out
+written : (c : Then-fits) → c.loop-rest.at < length c.loop-rest.out
 written c =
-    let room = c.requires.room in word_index _ _ _ _ c.loop-rest.invariant room c.loop-rest-test.true c.fits_row.ensures c.if-fits_row.true
+    word_index _ _ _ _ c.loop-rest.invariant c.requires.room c.loop-rest-test.true c.fits.ensures c.if-fits.true
 
 pub loop-rest-init : goal.loop-rest-init
 loop-rest-init c = word_start _ _ _ _ c.ranges.word.fits
 
-pub fits_row-requires : goal.fits_row-requires
-fits_row-requires c =
-    let p = c.requires in let e = left_set c.loop-rest.invariant.left c.loop-rest-test.true in
-    (p.in_kind _ (high (goal.at.fits_row-requires c).In-loop-rest) e, p.in_name _ (high (goal.at.fits_row-requires c).In-loop-rest) e)
+pub fits-requires : goal.fits-requires
+fits-requires c =
+    let l = high (goal.at.fits-requires c).In-loop-rest in
+    let e = left_set c.loop-rest.invariant.left c.loop-rest-test.true in
+    (c.requires.in_kind _ l e, c.requires.in_name _ l e)
 
 pub offset_bounds-out-at : goal.offset_bounds-out-at
 offset_bounds-out-at c =
-    let p = written (goal.at.offset_bounds-out-at c).Then-fits_row in
+    let p = written (goal.at.offset_bounds-out-at c).Then-fits in
     let w = whole (goal.at.offset_bounds-out-at c).At-loop-rest in
     omega arith
 
 pub bounds-out-at : goal.bounds-out-at
-bounds-out-at c = written (goal.at.bounds-out-at c).Then-fits_row
+bounds-out-at c = written (goal.at.bounds-out-at c).Then-fits
 
 pub overflow_add-at : goal.overflow_add-at
 overflow_add-at c =
-    let p = written (goal.at.overflow_add-at c).Then-fits_row in
+    let p = written (goal.at.overflow_add-at c).Then-fits in
     let w = whole (goal.at.overflow_add-at c).At-loop-rest in
     omega arith
 
 pub loop-rest-preserved : goal.loop-rest-preserved
 loop-rest-preserved c =
-    let room = c.requires.room in let some = c.loop-rest-test.true in elim c.if-fits_row.branch [
-      | then-fits_row w ↦ rw (w.at-is, w.out-is) (word_yes _ _ _ _ c.loop-rest.invariant room some c.fits_row.ensures w.if-fits_row.true)
-      | else-fits_row w ↦ rw (w.at-is, w.out-is) (word_no _ _ _ _ c.loop-rest.invariant room some c.fits_row.ensures w.if-fits_row.false)
+    let v = c.loop-rest.invariant in let room = c.requires.room in let some = c.loop-rest-test.true in
+    let e = c.fits.ensures in elim c.if-fits.branch [
+      | then-fits w ↦ rw (w.at-is, w.out-is) (word_yes _ _ _ _ v room some e w.if-fits.true)
+      | else-fits w ↦ rw (w.at-is, w.out-is) (word_no _ _ _ _ v room some e w.if-fits.false)
     ]
 
 pub returns : goal.returns

@@ -5,8 +5,7 @@ use Rattle.marks.proofs.ChildWalkLaws.{ChildrenAdded}
 use Rattle.marks.proofs.walk.add_children.Given as goal
 
 abbrev pub invariant-loop-w : goal.invariant-loop-w
-invariant-loop-w l =
-    ChildrenAdded l.level l.p l.from l.end l.initial.words l.words l.mark l.w
+invariant-loop-w l = ChildrenAdded l.trees.level.now l.p l.from l.end l.initial.set l.set l.w
 
 abbrev pub decreases-loop-w : goal.decreases-loop-w
 decreases-loop-w l = l.end - l.w

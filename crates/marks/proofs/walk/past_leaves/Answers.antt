@@ -1,5 +1,5 @@
--- `marks::walk::past_leaves` meets its contract. The loop's invariant: the children before row w are gathered, and w is
--- not before the row at which it began. Assumes nothing.
+-- `marks::walk::past_leaves` meets its contract. The loop's invariant: the children before row w are gathered.
+-- Assumes nothing.
 use Prim.Native.Nat.{◌+◌, ◌%◌}
 use mathlib.Core.Path.{◌≡◌}
 use native.Mathlib.Omega.{arith}
@@ -11,28 +11,28 @@ use Rattle.marks.proofs.walk.past_leaves.Goals as goal
 
 pub offset_bounds-size-w : goal.offset_bounds-size-w
 offset_bounds-size-w c =
-    let h = c.requires.0 in let l = c.loop-w-test.true in omega (arith, row_in_use h.shape h.row h.inside c.loop-w.w l, h.shape.few)
+    let s = c.args.trees.now.shape in let h = c.requires.gathers.0 in
+    omega (arith, row_in_use s h.row h.inside c.loop-w.w c.loop-w-test.true, s.few)
 
 pub bounds-size-w : goal.bounds-size-w
 bounds-size-w c =
-    let h = c.requires.0 in let l = c.loop-w-test.true in omega (arith, row_in_use h.shape h.row h.inside c.loop-w.w l, h.shape.in_size)
+    let s = c.args.trees.now.shape in let h = c.requires.gathers.0 in
+    omega (arith, row_in_use s h.row h.inside c.loop-w.w c.loop-w-test.true, s.in_size)
 
-pub overflow_add-result : goal.overflow_add-result
-overflow_add-result c =
-    let h = c.requires.0 in omega (arith, gathers_inside h c.loop-w.w c.loop-w-test.true, h.shape.few)
+pub overflow_add-result-then-below-ne0 : goal.overflow_add-result-then-below-ne0
+overflow_add-result-then-below-ne0 c =
+    omega (arith, gathers_inside c.requires.gathers.0 c.loop-w.w c.loop-w-test.true, c.args.trees.now.shape.few)
 
 pub returns-then-below-ne0 : goal.returns-then-below-ne0
 returns-then-below-ne0 c =
-    let v = c.loop-w.w in let r : v + 1 + at c.args.size.now v ≡ v + at c.args.size.now v + 1 = omega arith in
-    rw (shifted_one (v % 64) (omega arith)) (
-      gathered_next c.requires.0 c.loop-w.invariant.0 c.loop-w-test.true _ r,
-      omega (arith, c.loop-w.invariant.1),
-    )
+    let v = c.loop-w.w in
+    let r : v + 1 + at c.args.trees.now.size.now v ≡ v + at c.args.trees.now.size.now v + 1 = omega arith in
+    rw (shifted_one (v % 64) (omega arith))
+    (gathered_next c.requires.gathers.0 c.loop-w.invariant c.loop-w-test.true _ r, omega arith)
 
 pub loop-w-preserved : goal.loop-w-preserved
 loop-w-preserved c =
-    let v = c.loop-w.w in let r : v + 1 ≡ v + at c.args.size.now v + 1 = omega (arith, c.if-below-ne0.false) in
-    rw (shifted_one (v % 64) (omega arith)) (
-      gathered_next c.requires.0 c.loop-w.invariant.0 c.loop-w-test.true _ r,
-      omega (arith, c.loop-w.invariant.1),
-    )
+    let v = c.loop-w.w in
+    let r : v + 1 ≡ v + at c.args.trees.now.size.now v + 1 = omega (arith, c.if-below-ne0.false) in
+    rw (shifted_one (v % 64) (omega arith))
+    (gathered_next c.requires.gathers.0 c.loop-w.invariant c.loop-w-test.true _ r)

@@ -4,7 +4,7 @@ use Prim.Native.Nat.{ℕ, ◌≤◌, ◌<◌, ◌-◌}
 use mathlib.Core.Path.{◌≡◌}
 use mathlib.Core.Bool.{true}
 use lib.ListN.{length}
-use Rattle.tree.specs.Table.{table_of}
+use Rattle.tree.specs.Table.{seen}
 use Rattle.tree.specs.Sound.{key_ok}
 use Rattle.keys.specs.Chain.{Chained}
 use Rattle.rows.proofs.OnePassLaws.{Followed}
@@ -12,8 +12,9 @@ use Rattle.rows.proofs.one_pass.passed_in.Given as goal
 
 abbrev pub invariant-loop-i : goal.invariant-loop-i
 invariant-loop-i l =
-    (l.i ≤ l.count) × (length l.heads ≡ length l.initial.heads) × (length l.next ≡ length l.initial.next) × Chained l.shift l.key l.heads l.next l.i
-    × Followed (table_of l.key l.size l.level l.kind l.name l.count) l.ends l.most l.i × ((j : ℕ) → j < l.i → key_ok l.key j ≡ true)
+    (l.i ≤ l.count) × (length l.chains.next.now ≡ length l.initial.chains.next.now)
+    × Chained l.chains.shift l.key l.chains.heads.now l.chains.next.now l.i
+    × Followed (seen l.columns) l.ends l.most l.i × ((j : ℕ) → j < l.i → key_ok l.key j ≡ true)
 
 abbrev pub decreases-loop-i : goal.decreases-loop-i
 decreases-loop-i l = l.count - l.i

@@ -1,14 +1,23 @@
--- `shift::mover::open_part_raised` meets its contract. Assumes nothing.
+-- `shift::mover::open_part_raised` meets its contract. The first i rows are those of the piece with add more, the
+-- others stand where they were moved to. Assumes nothing.
+use mathlib.Core.Path.{◌∙◌}
 use mathlib.Core.List.{map}
 use Prim.Native.Nat.{◌+◌}
 use native.Mathlib.Omega.{arith}
-use Rattle.shift.proofs.MoverLaws.{open_part_lem}
+use Rattle.shift.proofs.MoverLaws.{put_start, put_end, raised_turn, moved_down, open_part_lem}
 use Rattle.shift.proofs.mover.open_part_raised.Goals as goal
+
+pub loop-i-init : goal.loop-i-init
+loop-i-init c = put_start _ _
+
+pub loop-i-preserved : goal.loop-i-preserved
+loop-i-preserved c =
+    raised_turn c.args.add c.args.piece.now c.loop-i.invariant (omega arith)
+    (omega (arith, c.copy_within.ensures.len))
 
 pub returns : goal.returns
 returns c =
     let a = c.args in
-    open_part_lem a.n a.by (map (λ l. l + a.add) a.piece.now) a.part.now
-    c.shift_down.new.part _
-    (omega arith) c.shift_down.ensures
-    c.put_raised.ensures
+    open_part_lem a.n a.by (map (λ l. l + a.add) a.piece.now) a.part.now _ _ (omega arith)
+    (c.copy_within.ensures.after ∙ moved_down a.n a.by a.part.now)
+    (put_end a.by c.loop-i.invariant (omega arith) c.loop-i-test.false)
