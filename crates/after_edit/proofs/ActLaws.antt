@@ -105,7 +105,8 @@ edit_of (deletion k) = del
 edit_of (renaming k m) = ren m
 
 -- its nodes are the edited ones
-pub after_nodes : (a : Act) (t : Table) → Fits a t → nodes_of (table_after a t) ≡ edited (edit_of a) (key_of a) (nodes_of t)
+pub after_nodes : (a : Act) (t : Table) → Fits a t
+    → nodes_of (table_after a t) ≡ edited (edit_of a) (key_of a) (nodes_of t)
 after_nodes (insertion k p) t f =
     nodes_inserted t f.sound k f.found p
     ((insert_passes t (row_of t.key t.count k) p).0 f.passes).piece.in_use

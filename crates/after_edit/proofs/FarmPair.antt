@@ -8,7 +8,8 @@ use native.Mathlib.Nat.{not-suc-le-zero}
 use native.Mathlib.Omega.{arith}
 use Rattle.tree.specs.Search.{least, some_below, nearest}
 use Rattle.tree.specs.Table.{Table, table_of, shortest, count_ok, SameRows}
-use Rattle.tree.specs.Sound.{level_ok, run_of, size_of, size_ok, kind_ok, has_name, name_ok, row_of, key_ok, beside_key_ok, row_ok}
+use Rattle.tree.specs.Sound.{level_ok, run_of, size_of, size_ok, kind_ok, has_name, name_ok, row_of, key_ok}
+use Rattle.tree.specs.Sound.{beside_key_ok, row_ok}
 use Rattle.tree.specs.Sound.{first_bad}
 use Rattle.tree.specs.Tree.{parent, above, ancestor, other_root}
 use Rattle.tree.specs.Edit.{closed, changed, gap_of, deleted, insert_done, delete_done}
@@ -24,9 +25,9 @@ use Rattle.tree.specs.declared.Refusal.TheVariants.{DeletesRoot}
 
 -- M9 deletes the row of key 21, M10 inserts a leaf under that of key 31
 pub farm_independent : Independent (deletion 21) (insertion 31 leaf) farm
-unfolding least some_below nearest shortest count_ok level_ok run_of size_of size_ok kind_ok has_name name_ok row_of key_ok
-    beside_key_ok row_ok first_bad parent above ancestor other_root given given_at next table_check key_check bad_piece
-    insert_check delete_check edit_if edit_check insert_outcome delete_outcome
+unfolding least some_below nearest shortest count_ok level_ok run_of size_of size_ok kind_ok has_name name_ok row_of
+    key_ok beside_key_ok row_ok first_bad parent above ancestor other_root given given_at next table_check key_check
+    bad_piece insert_check delete_check edit_if edit_check insert_outcome delete_outcome
 farm_independent = record {
   accepted_a = (delete_done farm 2, refl);
   accepted_b = (insert_done farm 7 leaf, refl);
@@ -47,9 +48,9 @@ farm_same = (either_order (deletion 21) (insertion 31 leaf) farm farm_independen
 -- ── several farms ──
 -- the first farm goes, and a leaf comes into the second
 pub farms_independent : Independent (deletion 10) (insertion 21 leaf) farms
-unfolding least some_below nearest shortest count_ok level_ok run_of size_of size_ok kind_ok has_name name_ok row_of key_ok
-    beside_key_ok row_ok first_bad parent above ancestor other_root given given_at next table_check key_check bad_piece
-    insert_check delete_check edit_if edit_check insert_outcome delete_outcome
+unfolding least some_below nearest shortest count_ok level_ok run_of size_of size_ok kind_ok has_name name_ok row_of
+    key_ok beside_key_ok row_ok first_bad parent above ancestor other_root given given_at next table_check key_check
+    bad_piece insert_check delete_check edit_if edit_check insert_outcome delete_outcome
 farms_independent = record {
   accepted_a = (delete_done farms 0, refl);
   accepted_b = (insert_done farms 5 leaf, refl);
@@ -75,7 +76,7 @@ two = table_of (1 ∷ 2 ∷ []) (0 ∷ 0 ∷ []) (0 ∷ 0 ∷ []) (1 ∷ 1 ∷ [
 pub roots_refused : Accepted (outcome (deletion 1) two) × Accepted (outcome (deletion 2) two)
     × ((in_turn (deletion 1) (deletion 2) two).answer ≡ Err DeletesRoot)
     × ((in_turn (deletion 2) (deletion 1) two).answer ≡ Err DeletesRoot)
-unfolding least some_below nearest shortest count_ok level_ok run_of size_of size_ok kind_ok has_name name_ok row_of key_ok
-    beside_key_ok row_ok first_bad parent above ancestor other_root given given_at next table_check key_check bad_piece
-    insert_check delete_check edit_if edit_check insert_outcome delete_outcome closed changed gap_of deleted
+unfolding least some_below nearest shortest count_ok level_ok run_of size_of size_ok kind_ok has_name name_ok row_of
+    key_ok beside_key_ok row_ok first_bad parent above ancestor other_root given given_at next table_check key_check
+    bad_piece insert_check delete_check edit_if edit_check insert_outcome delete_outcome closed changed gap_of deleted
 roots_refused = ((delete_done two 0, refl), (delete_done two 1, refl), refl, refl)

@@ -10,7 +10,8 @@ use native.Mathlib.Nat.{not-suc-le-zero, le_of_suc-le-suc}
 use native.Mathlib.Omega.{arith}
 use Rattle.tree.specs.Search.{least, some_below, nearest}
 use Rattle.tree.specs.Table.{at, shortest, count_ok, SameRows}
-use Rattle.tree.specs.Sound.{level_ok, run_of, size_of, size_ok, kind_ok, has_name, name_ok, row_of, key_ok, beside_key_ok, row_ok}
+use Rattle.tree.specs.Sound.{level_ok, run_of, size_of, size_ok, kind_ok, has_name, name_ok, row_of, key_ok}
+use Rattle.tree.specs.Sound.{beside_key_ok, row_ok}
 use Rattle.tree.specs.Sound.{first_bad}
 use Rattle.tree.specs.Tree.{parent, above, ancestor, other_root}
 use Rattle.tree.specs.Edit.{opened, changed, gap_of, inserted, insert_done}
@@ -34,9 +35,9 @@ apart (suc i) j l m e = not-suc-le-zero (le_of_suc-le-suc l)
 
 -- a leaf under the row of key 21 and another under that of key 31: 10 rows and 2 are the 12 that the columns have
 pub leaves_independent : Independent (insertion 21 leaf) (insertion 31 (leaf_of 51)) farm
-unfolding least some_below nearest shortest count_ok level_ok run_of size_of size_ok kind_ok has_name name_ok row_of key_ok
-    beside_key_ok row_ok first_bad parent above ancestor other_root given given_at next table_check key_check bad_piece
-    insert_check edit_if edit_check insert_outcome
+unfolding least some_below nearest shortest count_ok level_ok run_of size_of size_ok kind_ok has_name name_ok row_of
+    key_ok beside_key_ok row_ok first_bad parent above ancestor other_root given given_at next table_check key_check
+    bad_piece insert_check edit_if edit_check insert_outcome
 leaves_independent = record {
   accepted_a = (insert_done farm 2 leaf, refl);
   accepted_b = (insert_done farm 7 (leaf_of 51), refl);
@@ -57,17 +58,17 @@ leaves_same = (either_order (insertion 21 leaf) (insertion 31 (leaf_of 51)) farm
 -- the same key in both pieces: the second of the two is refused with 13
 pub key_refused : ((in_turn (insertion 21 leaf) (insertion 31 leaf) farm).answer ≡ Err (KeyTaken 0))
     × ((in_turn (insertion 31 leaf) (insertion 21 leaf) farm).answer ≡ Err (KeyTaken 0))
-unfolding least some_below nearest shortest count_ok level_ok run_of size_of size_ok kind_ok has_name name_ok row_of key_ok
-    beside_key_ok row_ok first_bad parent above ancestor other_root given given_at next table_check key_check bad_piece
-    insert_check edit_if edit_check insert_outcome opened changed gap_of inserted
+unfolding least some_below nearest shortest count_ok level_ok run_of size_of size_ok kind_ok has_name name_ok row_of
+    key_ok beside_key_ok row_ok first_bad parent above ancestor other_root given given_at next table_check key_check
+    bad_piece insert_check edit_if edit_check insert_outcome opened changed gap_of inserted
 key_refused = (refl, refl)
 
 -- three rows in all, where there is room for two: the second of the two is refused with 14
 pub third_refused : ((in_turn (insertion 21 (leaf_of 60)) (insertion 31 twig) farm).answer ≡ Err NoRoom)
     × ((in_turn (insertion 31 twig) (insertion 21 (leaf_of 60)) farm).answer ≡ Err NoRoom)
-unfolding least some_below nearest shortest count_ok level_ok run_of size_of size_ok kind_ok has_name name_ok row_of key_ok
-    beside_key_ok row_ok first_bad parent above ancestor other_root given given_at next table_check key_check bad_piece
-    insert_check edit_if edit_check insert_outcome opened changed gap_of inserted
+unfolding least some_below nearest shortest count_ok level_ok run_of size_of size_ok kind_ok has_name name_ok row_of
+    key_ok beside_key_ok row_ok first_bad parent above ancestor other_root given given_at next table_check key_check
+    bad_piece insert_check edit_if edit_check insert_outcome opened changed gap_of inserted
 third_refused = (refl, refl)
 
 -- ── the same rows in use, other spare rows ──
@@ -79,9 +80,9 @@ same_room = (in_use_edit farm (spared (1 ∷ 2 ∷ [])) (same_farm (1 ∷ 2 ∷ 
 -- one column has no room: another answer
 pub less_room : ((outcome (insertion 31 leaf) farm).answer ≡ Ok (insert_done farm 7 leaf))
     × ((outcome (insertion 31 leaf) (spared [])).answer ≡ Err NoRoom)
-unfolding least some_below nearest shortest count_ok level_ok run_of size_of size_ok kind_ok has_name name_ok row_of key_ok
-    beside_key_ok row_ok first_bad parent above ancestor other_root given given_at next table_check key_check bad_piece
-    insert_check edit_if edit_check insert_outcome
+unfolding least some_below nearest shortest count_ok level_ok run_of size_of size_ok kind_ok has_name name_ok row_of
+    key_ok beside_key_ok row_ok first_bad parent above ancestor other_root given given_at next table_check key_check
+    bad_piece insert_check edit_if edit_check insert_outcome
 less_room = (refl, refl)
 
 -- a deletion and a renaming get the same answer without room

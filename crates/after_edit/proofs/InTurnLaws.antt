@@ -154,7 +154,8 @@ fits_after a b t i =
       passes = own_again b t u g s l (ap (at u.level) e ∙ r.level) (ap (at u.kind) e ∙ r.kind)
           (root_stays a b t i s l)
           (subst (Apart (brought (edit_of b))) (sym (after_nodes a t f))
-          (apart_edited (edit_of a) (key_of a) (brought (edit_of b)) (nodes_of t) (keys_new b t g) (pieces_apart a b t i)))
+          (apart_edited (edit_of a) (key_of a) (brought (edit_of b)) (nodes_of t) (keys_new b t g)
+          (pieces_apart a b t i)))
           (omega (arith, after_count a t, i.in_limit))
           (omega (arith, after_count a t, after_shortest a t f, i.in_columns));
     }

@@ -55,7 +55,8 @@ last_under u s r c a b l e h = record {
 module _ (t : Table) (k : ℕ) (p : Table) (f : Fits (insertion k p) t) where
   -- a row of the piece, by the definitions
   after_planted : (j : ℕ) → j < p.count
-      → Planted t (row_named (insertion k p) t) p (table_after (insertion k p) t) j ((done_of (insertion k p) t).first + j)
+      → Planted t (row_named (insertion k p) t) p (table_after (insertion k p) t) j
+      ((done_of (insertion k p) t).first + j)
   unfolding inserted insert_done
   after_planted j l =
       let r : ℕ = row_named (insertion k p) t in

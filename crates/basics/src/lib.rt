@@ -1,22 +1,8 @@
-// Tests joined, of two or of a part of a column, and the smaller and the greater of two numbers. They stand for
-// branches, which would lose what a test showed.
+// A test of a part of a column, and the search for the least place that passes a test.
 #![tactic(auto)]
 
-ghost use Rattle.std.specs.Prelude.{◌≡◌, ◌↔◌, true, ◌&&◌, ◌||◌, ℕ, ◌<◌, ◌≤◌, min, max, length, get_or};
-
-// Whether both hold.
-pub fn both(a: bool, b: bool) -> bool
-    ensures { result ≡ (a && b) }
-{
-    a & b
-}
-
-// Whether one of them holds.
-pub fn either(a: bool, b: bool) -> bool
-    ensures { result ≡ (a || b) }
-{
-    a | b
-}
+ghost use Rattle.std.specs.Prelude.{◌≡◌, ◌↔◌, true, Bool, ℕ, ◌<◌, ◌≤◌, length, get_or};
+ghost use Rattle.tree.specs.Search.{least};
 
 // Whether a column has the number x from one place up to another. All places are looked at, without a branch.
 pub fn one_of(column: &[usize], from: usize, to: usize, x: usize) -> bool
@@ -31,16 +17,16 @@ pub fn one_of(column: &[usize], from: usize, to: usize, x: usize) -> bool
     met
 }
 
-// The smaller of two numbers.
-pub fn smaller(a: usize, b: usize) -> usize
-    ensures { result ≡ min a b }
+// The least of the first n places that passes the test, or n. Places behind it are not tested.
+pub fn least<F: Fn(usize) -> bool>(n: usize, test: F) -> usize
+    requires { (i : ℕ) → i < n → F.pre test i }
+    ensures { (f : ℕ → Bool) → ((i : ℕ) (b : Bool) → i < n → F.post test i b → b ≡ f i)
+        → result ≡ least f n }
 {
-    a.min(b)
-}
-
-// The greater of two numbers.
-pub fn greater(a: usize, b: usize) -> usize
-    ensures { result ≡ max a b }
-{
-    a.max(b)
+    for i in 0..n {
+        if test(i) {
+            return i;
+        }
+    }
+    n
 }

@@ -43,7 +43,8 @@ same_room i t u = go (eqb i.code 1)
 
 -- on tables with the same rows in use an item gets the same answer, and leaves the same rows in use
 in_use_item : (t u : Table) → SameRows t u → (i : Item)
-    → ((item_outcome t i).answer ≡ (item_outcome u i).answer) × SameRows (item_outcome t i).table (item_outcome u i).table
+    → ((item_outcome t i).answer ≡ (item_outcome u i).answer)
+    × SameRows (item_outcome t i).table (item_outcome u i).table
 in_use_item t u s i = rw (item_act t i, item_act u i) (in_use_edit t u s (act_of i) (same_room i t u))
 
 -- lists that end at the same place for the same reason, with the same rows in use, end alike
@@ -54,7 +55,8 @@ ended_alike n end t u s = record { answer = ap answered s.count; rows = s }
     answered c = record { done = n; count = c; end = end }
 
 -- and so does a list
-pub in_use_list : (is : List Item) (n : ℕ) (t u : Table) → SameRows t u → EndAlike (one_by_one n is t) (one_by_one n is u)
+pub in_use_list : (is : List Item) (n : ℕ) (t u : Table) → SameRows t u
+    → EndAlike (one_by_one n is t) (one_by_one n is u)
 unfolding one_by_one
 in_use_list [] n t u s = ended_alike n passed t u s
 in_use_list (i ∷ is) n t u s =

@@ -1,6 +1,6 @@
--- What a list of changes leaves where its own checks refuse it: `count_refuses` (1), `row_refuses` (2), `list_refuses`
--- (18); and where they pass, `items_leave`. By the least row that is not sound, where there is none: the table is sound,
--- `rows_sound`, and that row is the count, `no_bad_row`. Assumes nothing.
+-- What a list of changes leaves where its own checks refuse it: `count_refuses` (1), `row_refuses` (2),
+-- `list_refuses` (18); and where they pass, `items_leave`. By the least row that is not sound, where there is none:
+-- the table is sound, `rows_sound`, and that row is the count, `no_bad_row`. Assumes nothing.
 use mathlib.Core.Path.{◌≡◌, refl}
 use mathlib.Core.Bool.{not, false}
 use mathlib.Core.List.{List}

@@ -40,7 +40,8 @@ unfolding one_by_one unless_refused
 after_made n i is t h = rw h.1
 
 -- a refused item, and then none
-pub after_refused : (n : ℕ) (i : Item) (is : List Item) (t : Table) (why : Refusal) → (item_outcome t i).answer ≡ Err why
+pub after_refused : (n : ℕ) (i : Item) (is : List Item) (t : Table) (why : Refusal)
+    → (item_outcome t i).answer ≡ Err why
     → one_by_one n (i ∷ is) t ≡ ended n (Err why) t
 unfolding one_by_one unless_refused
 after_refused n i is t why e = rw (e, refused_unchanged t i why e)

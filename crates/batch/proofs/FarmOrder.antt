@@ -8,7 +8,8 @@ use native.Mathlib.Nat.{not-suc-le-zero}
 use native.Mathlib.Omega.{arith}
 use Rattle.tree.specs.Search.{least, some_below, nearest}
 use Rattle.tree.specs.Table.{shortest, count_ok}
-use Rattle.tree.specs.Sound.{level_ok, run_of, size_of, size_ok, kind_ok, has_name, name_ok, row_of, key_ok, beside_key_ok, row_ok}
+use Rattle.tree.specs.Sound.{level_ok, run_of, size_of, size_ok, kind_ok, has_name, name_ok, row_of, key_ok}
+use Rattle.tree.specs.Sound.{beside_key_ok, row_ok}
 use Rattle.tree.specs.Sound.{first_bad}
 use Rattle.tree.specs.Tree.{parent, above, ancestor, other_root}
 use Rattle.tree.specs.Edit.{delete_done, rename_done}
@@ -37,9 +38,9 @@ keys_turned = 40 ∷ 31 ∷ 21 ∷ []
 
 -- any two of them are independent
 pub farm_pairwise : Pairwise (items_of codes keys names) farm
-unfolding least some_below nearest shortest count_ok level_ok run_of size_of size_ok kind_ok has_name name_ok row_of key_ok
-    beside_key_ok row_ok first_bad parent above ancestor other_root given given_at next table_check key_check delete_check
-    rename_check edit_if edit_check delete_outcome rename_outcome items_of item_outcome
+unfolding least some_below nearest shortest count_ok level_ok run_of size_of size_ok kind_ok has_name name_ok row_of
+    key_ok beside_key_ok row_ok first_bad parent above ancestor other_root given given_at next table_check key_check
+    delete_check rename_check edit_if edit_check delete_outcome rename_outcome items_of item_outcome
 farm_pairwise = (
   (delete_done farm 2, refl),
   (first, (second, tt)),
@@ -87,8 +88,8 @@ farm_pairwise = (
 
 -- the check passes, either way round
 passes : (batch_check farm codes keys names ≡ passed) × (batch_check farm codes keys_turned names ≡ passed)
-unfolding least some_below nearest shortest count_ok level_ok run_of size_of size_ok kind_ok has_name name_ok row_of key_ok
-    beside_key_ok row_ok first_bad given given_at next table_check list_check batch_check
+unfolding least some_below nearest shortest count_ok level_ok run_of size_of size_ok kind_ok has_name name_ok row_of
+    key_ok beside_key_ok row_ok first_bad given given_at next table_check list_check batch_check
 passes = (refl, refl)
 
 -- the one list is the other turned round

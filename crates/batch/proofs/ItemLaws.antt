@@ -73,7 +73,8 @@ columns (c ∷ cs) (k ∷ ks) [] e f = absurd (omega arith)
 columns (c ∷ cs) (k ∷ ks) (m ∷ ms) e f =
     let r = columns cs ks ms (omega arith) (omega arith) in (ap suc r.0, places r.1)
   where
-    places : ((n : ℕ) → n < length cs → drop n (items_of cs ks ms) ≡ item_at cs ks ms n ∷ drop (suc n) (items_of cs ks ms))
+    places : ((n : ℕ) → n < length cs → drop n (items_of cs ks ms) ≡ item_at cs ks ms n ∷ drop (suc n)
+        (items_of cs ks ms))
         → (n : ℕ) → n < length (c ∷ cs) → drop n (items_of (c ∷ cs) (k ∷ ks) (m ∷ ms))
         ≡ item_at (c ∷ cs) (k ∷ ks) (m ∷ ms) n ∷ drop (suc n) (items_of (c ∷ cs) (k ∷ ks) (m ∷ ms))
     places h zero l = refl

@@ -1,7 +1,7 @@
 -- The calls of a list of changes as a caller would make them without the list: RULES 02, E4, "The outcome equals the
--- calls made one by one in list order". Each is a call of `delete` or `rename`, and what it answers and leaves is what their contract says
--- (`EditLeaves`, edit_at/specs). That the list gives the same is `one_by_one_calls`, and that there are such calls
--- `calls_there` (proofs/BatchLaws.antt). Assumes nothing.
+-- calls made one by one in list order". Each is a call of `delete` or `rename`, and what it answers and leaves is
+-- what their contract says (`EditLeaves`, edit_at/specs). That the list gives the same is `one_by_one_calls`, and
+-- that there are such calls `calls_there` (proofs/BatchLaws.antt). Assumes nothing.
 use Rattle.std.specs.Prelude.{ℕ, suc, List, [], ◌∷◌, Err, Ok}
 use Rattle.tree.specs.Table.{Table, table_of}
 use Rattle.tree.specs.Batch.{item_outcome}

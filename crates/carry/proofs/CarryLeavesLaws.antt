@@ -85,7 +85,8 @@ module _ (role row : List ℕ) (old first : ℕ) (moved : ℤ) (outRole outRow :
 
       -- without room
       pub leaves_full : min (length outRole) (length outRow) < left
-          → CarryLeaves (carry_outcome role row old first moved outRole outRow) (Err (TooManyResults left)) outRole outRow
+          → CarryLeaves (carry_outcome role row old first moved outRole outRow)
+          (Err (TooManyResults left)) outRole outRow
       unfolding carry_outcome carry_if room_check given
       leaves_full h =
           rw (left_new, room_only, lt-ltb (min (length outRole) (length outRow)) (length new) (omega (arith, left_new)))

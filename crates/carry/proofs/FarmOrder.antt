@@ -9,7 +9,8 @@ use native.Mathlib.Omega.{arith}
 use lib.IntN.{pos, negsuc}
 use Rattle.tree.specs.Search.{least, some_below, nearest}
 use Rattle.tree.specs.Table.{Table, table_of, shortest, count_ok}
-use Rattle.tree.specs.Sound.{level_ok, run_of, size_of, size_ok, kind_ok, has_name, name_ok, row_of, key_ok, beside_key_ok, row_ok}
+use Rattle.tree.specs.Sound.{level_ok, run_of, size_of, size_ok, kind_ok, has_name, name_ok, row_of, key_ok}
+use Rattle.tree.specs.Sound.{beside_key_ok, row_ok}
 use Rattle.tree.specs.Sound.{first_bad}
 use Rattle.tree.specs.Tree.{parent, above, ancestor, other_root}
 use Rattle.tree.specs.Pairs.{Pair, pair}
@@ -53,10 +54,10 @@ then_deletes = record { count = 9; first = 4; moved = negsuc 1 }
 
 -- either order carries the pairs to the same list
 pub farm_order : carried 7 (pos 1) (carried 4 (negsuc 1) held) ≡ carried 4 (negsuc 1) (carried 9 (pos 1) held)
-unfolding least some_below nearest shortest count_ok level_ok run_of size_of size_ok kind_ok has_name name_ok row_of key_ok
-    beside_key_ok row_ok first_bad parent above ancestor other_root given given_at next table_check key_check bad_piece
-    insert_check delete_check edit_if edit_check insert_outcome delete_outcome opened closed changed gap_of inserted deleted
-    minus insert_done delete_done
+unfolding least some_below nearest shortest count_ok level_ok run_of size_of size_ok kind_ok has_name name_ok row_of
+    key_ok beside_key_ok row_ok first_bad parent above ancestor other_root given given_at next table_check key_check
+    bad_piece insert_check delete_check edit_if edit_check insert_outcome delete_outcome opened closed changed gap_of
+    inserted deleted minus insert_done delete_done
 farm_order =
     carry_either_order (deletion 21) (insertion 31 leaf) farm farm_independent held held_inside
     deletes then_inserts inserts then_deletes refl refl refl refl
@@ -73,10 +74,10 @@ blade = table_of (21 ∷ []) (0 ∷ []) (0 ∷ []) (1 ∷ []) (3 ∷ []) 1
 -- where M9 deletes key 21 and the next edit brings it back, the grant is gone, though the last table has the key
 pub farm_back : (carried 4 (pos 1) (carried 4 (negsuc 1) (pair 5 2 ∷ [])) ≡ [])
     × (refound farm (in_turn (deletion 21) (insertion 20 blade) farm).table (pair 5 2 ∷ []) ≡ pair 5 4 ∷ [])
-unfolding least some_below nearest shortest count_ok level_ok run_of size_of size_ok kind_ok has_name name_ok row_of key_ok
-    beside_key_ok row_ok first_bad parent above ancestor other_root given given_at next table_check key_check bad_piece
-    insert_check delete_check edit_if edit_check insert_outcome delete_outcome opened closed changed gap_of inserted deleted
-    minus insert_done delete_done carried carried_by was_deleted refound
+unfolding least some_below nearest shortest count_ok level_ok run_of size_of size_ok kind_ok has_name name_ok row_of
+    key_ok beside_key_ok row_ok first_bad parent above ancestor other_root given given_at next table_check key_check
+    bad_piece insert_check delete_check edit_if edit_check insert_outcome delete_outcome opened closed changed gap_of
+    inserted deleted minus insert_done delete_done carried carried_by was_deleted refound
 farm_back = (refl, refl)
 
 -- ── several farms ──
@@ -101,7 +102,7 @@ farms_carried = refl
 
 -- as their keys do
 pub farms_refound : carried 4 (negsuc 3) spread ≡ refound farms (outcome (deletion 10) farms).table spread
-unfolding least some_below nearest shortest count_ok level_ok run_of size_of size_ok kind_ok has_name name_ok row_of key_ok
-    beside_key_ok row_ok first_bad parent above ancestor other_root given given_at next table_check key_check delete_check
-    edit_if edit_check delete_outcome minus delete_done gap_of
+unfolding least some_below nearest shortest count_ok level_ok run_of size_of size_ok kind_ok has_name name_ok row_of
+    key_ok beside_key_ok row_ok first_bad parent above ancestor other_root given given_at next table_check key_check
+    delete_check edit_if edit_check delete_outcome minus delete_done gap_of
 farms_refound = carry_refinds (deletion 10) farms takes_first refl spread spread_inside

@@ -5,7 +5,6 @@
 ghost use Rattle.tree.specs.Carry.{carry_outcome};
 ghost use Rattle.carry.specs.CarryLeaves.{CarryLeaves};
 
-use basics::smaller;
 use moves::checks;
 use moves::moved::moved_to;
 use pairs_left::Move;
@@ -29,7 +28,7 @@ pub fn carry(
     checks::check_call(role, row, old_count, first, moved)?;
     let to = moved_to(old_count, first, moved, first);
     let left = pairs_left::count_left(row, to, first);
-    let short = smaller(out_role.len(), out_row.len()) < left;
+    let short = out_role.len().min(out_row.len()) < left;
     if short {
         return Err(Refusal::TooManyResults(left));
     }

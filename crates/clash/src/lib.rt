@@ -26,13 +26,7 @@ fn clash_by_rows(key: &[usize], n: usize, piece: &[usize], m: usize) -> usize
     requires m_in_bounds { m ≤ length piece.now }
     ensures { result ≡ first_clash key.now n piece.now m }
 {
-    for i in 0..m {
-        let taken = row_of(key, n, piece[i]) < n;
-        if taken {
-            return i;
-        }
-    }
-    m
+    basics::least(m, |i| row_of(key, n, piece[i]) < n)
 }
 
 // The same by the chains of the first n rows. No row is chained at first.
@@ -44,12 +38,7 @@ fn clash_in(key: &[usize], n: usize, piece: &[usize], m: usize, chains: &mut Cha
     ensures { result ≡ first_clash key.now n piece.now m }
 {
     chain(key, n, chains);
-    for i in 0..m {
-        if chains.row_in(key, n, piece[i]) < n {
-            return i;
-        }
-    }
-    m
+    basics::least(m, |i| chains.row_in(key, n, piece[i]) < n)
 }
 
 // The same by the way that is faster for the piece: with chains of its own, in time linear in both where keys spread

@@ -37,7 +37,8 @@ leaves t e = record {
 }
 
 -- ── the edit's own check ──
-pub own_refused : {c : Checked} (d : Done) (t' t : Table) {why : Refusal} → c ≡ Err why → edit_if c d t' t ≡ refused t why
+pub own_refused : {c : Checked} (d : Done) (t' t : Table) {why : Refusal} → c ≡ Err why
+    → edit_if c d t' t ≡ refused t why
 unfolding edit_if
 own_refused d t' t e = ap (λ (c : Checked). edit_if c d t' t) e
 

@@ -6,14 +6,14 @@ ghost use Rattle.edit_at.specs.EditLeaves.{EditLeaves};
 ghost use Rattle.table.specs.RowFound.{RowKnown};
 ghost use Rattle.edit_at.specs.AtRow.{rename_at};
 
-use basics::either;
 use tree::{Done, Refusal};
 
 // Whether a row of this kind cannot get this name: it has none, or the name is 0.
+#[tactic(auto, unfolding(tree::specs::Sound::has_name))]
 fn unfit(kind: usize, new_name: usize) -> bool
     ensures { result ≡ (not (has_name kind) || eqb new_name 0) }
 {
-    either(!either(kind == 1, kind == 4), new_name == 0)
+    !((kind == 1) | (kind == 4)) | (new_name == 0)
 }
 
 // A row gets the new name, or refusal 16. The other columns stay, and nobody asks for the row's parent.

@@ -6,7 +6,6 @@ ghost use Rattle.std.specs.Prelude.{◌≡◌, ◌≤◌, length};
 ghost use Rattle.tree.specs.Search.{least};
 ghost use Rattle.tree.specs.Batch.{wrong_code, list_check};
 
-use basics::either;
 use tree::Refusal;
 
 pub mod progress; // progress.rt: what was done so far, in the shape of the answer
@@ -16,13 +15,7 @@ fn first_wrong(code: &[usize], n: usize) -> usize
     requires { n ≤ length code.now }
     ensures { result ≡ least (wrong_code code.now) n }
 {
-    for i in 0..n {
-        let right = (code[i] == 1) | (code[i] == 2);
-        if !right {
-            return i;
-        }
-    }
-    n
+    basics::least(n, |i| (code[i] != 1) & (code[i] != 2))
 }
 
 // Refusal 18, or that the columns have one length, of at most 256, and no other code.
@@ -30,7 +23,8 @@ pub fn check_list(code: &[usize], key: &[usize], name: &[usize]) -> Result<(), R
     ensures { result ≡ list_check code.now key.now name.now }
 {
     let items = code.len();
-    if either(either(items != key.len(), items != name.len()), 256 < items) {
+    let no_list = (items != key.len()) | (items != name.len()) | (256 < items);
+    if no_list {
         return Err(Refusal::BadList);
     }
     let first = first_wrong(code, items);

@@ -6,7 +6,7 @@ ghost use Rattle.scan.specs.OneRole.{Roots};
 ghost use Rattle.links.specs.Links.{side_axis};
 ghost use Rattle.kept_rows.specs.KeptOf.{kept_of, KeptIn};
 
-use kept_rows::{kept_distinct, kept_innermost, kept_outermost};
+use kept_rows::{count_ends, kept_distinct, kept_innermost, kept_outermost};
 use scan::trees::Trees;
 
 // Axes 8 and 9: in how many trees there are contexts, of one or more: that of the first one, and each whose root is not
@@ -21,15 +21,7 @@ fn kept_trees(trees: &Trees<'_>, top: &[usize], rows: &[usize]) -> usize
     if top[first] == top[last] {
         return 1;
     }
-    let mut kept = 1;
-    for i in 1..rows.len() {
-        let before = rows[i - 1];
-        let c = rows[i];
-        if top[before] < top[c] {
-            kept += 1;
-        }
-    }
-    kept
+    count_ends(rows, |before, c| top[before] < top[c])
 }
 
 // How many distinct contexts of one role remain on an axis when redundant ones are dropped. Of fewer than two all do.

@@ -1,3 +1,4 @@
 pub mod KeptOfLaws
 pub mod KeptOuterLaws
 pub mod KeptPassLaws
+pub mod EndLaws

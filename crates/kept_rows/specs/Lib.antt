@@ -1,1 +1,2 @@
 pub mod KeptOf
+pub mod Ends

@@ -2,7 +2,9 @@
 // fall: equal ones stand side by side.
 #![tactic(auto)]
 
-ghost use Rattle.std.specs.Prelude.{◌≡◌, ◌<◌, length};
+ghost use Rattle.std.specs.Prelude.{◌≡◌, ℕ, ◌-◌, ◌<◌, Bool, length};
+ghost use Rattle.tree.specs.Table.{at};
+ghost use Rattle.kept_rows.specs.Ends.{ends};
 ghost use Rattle.kept_rows.specs.KeptOf.{kept_of, KeptIn};
 
 use scan::trees::Trees;
@@ -23,6 +25,25 @@ pub fn kept_outermost(trees: &Trees<'_>, rows: &[usize]) -> usize
     kept
 }
 
+// One, and one more for each context that with its next one passes the test.
+pub fn count_ends<F: Fn(usize, usize) -> bool>(rows: &[usize], test: F) -> usize
+    requires some { 0 < length rows.now }
+    requires met { (i : ℕ) → 0 < i → i < length rows.now
+        → F.pre test (at rows.now (i - 1)) (at rows.now i) }
+    ensures { (f : ℕ → Bool)
+        → ((i : ℕ) (b : Bool) → 0 < i → i < length rows.now
+        → F.post test (at rows.now (i - 1)) (at rows.now i) b → b ≡ f i)
+        → result ≡ ends f (length rows.now - 1) }
+{
+    let mut kept = 1;
+    for i in 1..rows.len() {
+        if test(rows[i - 1], rows[i]) {
+            kept += 1;
+        }
+    }
+    kept
+}
+
 // Axes 6 and 7: how many distinct contexts are ancestors of no other, of one context or more: the last one, and each
 // whose next comes after its descendants.
 pub fn kept_innermost(trees: &Trees<'_>, rows: &[usize]) -> usize
@@ -30,14 +51,7 @@ pub fn kept_innermost(trees: &Trees<'_>, rows: &[usize]) -> usize
     ensures { result ≡ kept_of 6 trees.now.level.now rows.now }
 {
     let size = trees.size;
-    let mut kept = 1;
-    for i in 1..rows.len() {
-        let c = rows[i - 1];
-        if c + size[c] < rows[i] {
-            kept += 1;
-        }
-    }
-    kept
+    count_ends(rows, |c, next| c + size[c] < next)
 }
 
 // The other axes: how many distinct contexts there are, of one or more: the last one, and each whose next is another.
@@ -45,11 +59,5 @@ pub fn kept_distinct(trees: &Trees<'_>, rows: &[usize]) -> usize
     requires { KeptIn trees.now rows.now × (0 < length rows.now) }
     ensures { result ≡ kept_of 1 trees.now.level.now rows.now }
 {
-    let mut kept = 1;
-    for i in 1..rows.len() {
-        if rows[i - 1] < rows[i] {
-            kept += 1;
-        }
-    }
-    kept
+    count_ends(rows, |c, next| c < next)
 }

@@ -2,15 +2,16 @@
 -- use (`lone_one`, `lone_row`). On ancestor-or-self the rows are a path, `lone-selves-..`; on ancestor too,
 -- `lone-above-..`; on parent they are a range of one row, `lone-parent-..`, or none. Assumes nothing.
 use Prim.Native.Nat.{ℕ, suc, ◌+◌, ◌<◌, ◌≤◌}
-use mathlib.Core.Path.{◌≡◌, sym, ap, ap₂, ◌∙◌}
+use mathlib.Core.Path.{◌≡◌, refl, sym, ap, ap₂, ◌∙◌}
 use mathlib.Core.Logic.{◌⊎◌, inl, inr, ⊎_elim}
-use mathlib.Core.Bool.{Bool, true, false, ◌&&◌, ◌||◌, and-true, or-false}
+use mathlib.Core.Bool.{Bool, true, false, false≢true, ◌&&◌, ◌||◌, and-true, or-false}
 use mathlib.Core.List.{List, [], ◌∷◌}
 use native.Mathlib.Numerals.{add-one}
 use native.Mathlib.Omega.{arith}
 use borrow.Author.Tests.{eqb-true, eq-eqb, ne_eqb}
 use lib.Dec.{eqb}
 use lib.ListN.{length}
+use Rattle.std.specs.Prelude.{Option, None, Some, is_none}
 use Rattle.tree.specs.Table.{at}
 use Rattle.tree.specs.Tree.{parent}
 use Rattle.tree.specs.Axis.{on_axis}
@@ -47,10 +48,15 @@ unfolding lone_path
 lone_path_lem many a want e h = ap (λ (b : Bool). eqb many 1 && b) (sym e) ∙ h
 
 -- ── what it says where it passes ──
+-- what is none is none
+none : (o : Option ℕ) → is_none o ≡ true → o ≡ None
+none None e = refl
+none (Some x) e = absurd (false≢true e)
+
 module _ (many axis : ℕ) (want : Want) (e : lone_path many axis want ≡ true) where
   -- any row is wanted
   abbrev any : Bool
-  any = eqb want.kind 5 && eqb want.name 0
+  any = is_none want.kind && is_none want.name
 
   -- one context, and one of the axes
   tests : (eqb many 1 ≡ true) × ((eqb axis 5 || ((eqb axis 6 || eqb axis 7) && any)) ≡ true)
@@ -64,11 +70,11 @@ module _ (many axis : ℕ) (want : Want) (e : lone_path many axis want ≡ true)
   cases : (axis ≡ 5) ⊎ ((eqb axis 6 || eqb axis 7) && any ≡ true)
   cases = ⊎_elim (λ z. inl (eqb-true axis 5 z)) (λ z. inr z) (either (eqb axis 5) _ tests.1)
 
-  any_row_lem : (axis ≡ 5 → ⊥) → (want.kind ≡ 5) × (want.name ≡ 0)
+  any_row_lem : (axis ≡ 5 → ⊥) → (want.kind ≡ None) × (want.name ≡ None)
   any_row_lem n = ⊎_elim
       (λ z. absurd (n z))
-      (λ z. let g = both (eqb want.kind 5) (eqb want.name 0) (both (eqb axis 6 || eqb axis 7) any z).1 in
-      (eqb-true want.kind 5 g.0, eqb-true want.name 0 g.1))
+      (λ z. let g = both (is_none want.kind) (is_none want.name) (both (eqb axis 6 || eqb axis 7) any z).1 in
+      (none want.kind g.0, none want.name g.1))
       cases
 
   parent_left : (axis ≡ 7 → ⊥) → (axis ≡ 6 → ⊥) → axis ≡ 5

@@ -1,6 +1,6 @@
 -- The way up from the one context of a role, written without a set: which rows it has, and what the functions that
 -- write it ask for. Assumes nothing.
-use Rattle.std.specs.Prelude.{ℕ, ◌≤◌, ◌≡◌, Bool, true, ◌&&◌, ◌||◌, List, eqb, length}
+use Rattle.std.specs.Prelude.{ℕ, ◌≤◌, ◌≡◌, Bool, true, ◌&&◌, ◌||◌, List, eqb, length, is_none}
 use Rattle.tree.specs.Search.{gather}
 use Rattle.scan.specs.OneRole.{RoleIn, Parents}
 use Rattle.ways.specs.Above.{on_path}
@@ -14,7 +14,7 @@ path_rows level n link = gather (on_path level link) n
 
 -- the parent is asked for, or all ancestors, with the context itself or without
 unfoldable pub upward : ℕ → Want → Bool
-upward axis want = eqb axis 5 || ((eqb axis 6 || eqb axis 7) && (eqb want.kind 5 && eqb want.name 0))
+upward axis want = eqb axis 5 || ((eqb axis 6 || eqb axis 7) && (is_none want.kind && is_none want.name))
 
 -- of so many contexts there is one, and that is asked for
 unfoldable pub lone_path : ℕ → ℕ → Want → Bool

@@ -17,7 +17,7 @@ pub fn is_upward(axis: usize, want: Want) -> bool
 {
     match axis {
         5 => true,
-        6..=7 => want.kind == 5 && want.name == 0,
+        6..=7 => want.kind.is_none() && want.name.is_none(),
         _ => false,
     }
 }

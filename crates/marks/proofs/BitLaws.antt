@@ -1,6 +1,6 @@
--- Laws of a word's bits: bit by bit (`bit_low`, `bit_half`, `bit_zero`, `bit_or_lem`, `bit_pow`), a word with a bit set is
--- not 0 (`bit_nonzero`), none is set past a width (`bit_high`), and the lowest bit that is set, with the word without
--- it (`lowest_bit`, `lowest_less`). Assumes nothing.
+-- Laws of a word's bits: bit by bit (`bit_low`, `bit_half`, `bit_zero`, `bit_or_lem`, `bit_pow`), a word with a bit
+-- set is not 0 (`bit_nonzero`), none is set past a width (`bit_high`), and the lowest bit that is set, with the word
+-- without it (`lowest_bit`, `lowest_less`). Assumes nothing.
 use mathlib.Core.Path.{◌≡◌, refl, sym, ap, ap₂, ◌∙◌}
 use mathlib.Core.Bool.{Bool, true, false, ◌&&◌, ◌||◌, true≢false}
 use Prim.Native.Nat.{ℕ, zero, suc, ◌+◌, ◌-◌, ◌*◌, ◌/◌, ◌%◌, ◌^◌, ◌<◌, ◌≤◌, min, max}

@@ -86,7 +86,8 @@ module _ (test : ℕ → Bool) (base word : ℕ) (old : List ℕ) where
           wrote_length s.wrote (omega arith)
 
       -- a bit is left: the lowest is the next row, and its test has an answer
-      module _ (some : rest ≡ 0 → ⊥) {answer : Bool} (tested : answer ≡ test (base + count_trailing_zeros 64 rest)) where
+      module _ (some : rest ≡ 0 → ⊥) {answer : Bool}
+          (tested : answer ≡ test (base + count_trailing_zeros 64 rest)) where
         abbrev row : ℕ
         row = base + count_trailing_zeros 64 rest
 

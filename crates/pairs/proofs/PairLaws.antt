@@ -26,7 +26,8 @@ unfolding pair_check given next
 pair_check_is role row n e l =
     let outside : ℕ → Bool = λ i. not (ltb (at row i) n) in
     rw (eq-eqb (length role) (length row) e, le-ltb 4096 (length role) l)
-    (ap (λ (k : ℕ). next (given_at (out_of_order role row) (length role) PairOutOfOrder) (given_at outside k PairOutsideTable)) e)
+    (ap (λ (k : ℕ). next (given_at (out_of_order role row) (length role) PairOutOfOrder)
+    (given_at outside k PairOutsideTable)) e)
 
 -- no pair below place i is less than the one before it
 abbrev pub OrderedBelow : List ℕ → List ℕ → ℕ → Type 0

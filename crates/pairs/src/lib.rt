@@ -9,7 +9,6 @@ ghost use Rattle.tree.specs.Pairs.{before, out_of_order};
 ghost use Rattle.tree.specs.Refusal.{pair_check};
 ghost use Rattle.pairs.specs.Places.{Ordered, Inside};
 
-use basics::either;
 use tree::Refusal;
 
 // Whether the pair (r, v) comes before the pair (q, w).
@@ -59,24 +58,14 @@ fn first_disorder(role: &[usize], row: &[usize]) -> usize
     requires { length role.now ≤ length row.now }
     ensures { result ≡ least (out_of_order role.now row.now) (length role.now) }
 {
-    for i in 0..role.len() {
-        if out_of_order(role, row, i) {
-            return i;
-        }
-    }
-    role.len()
+    basics::least(role.len(), |i| out_of_order(role, row, i))
 }
 
 // The least place whose row is not below the count, or the number of pairs.
 fn first_outside(count: usize, row: &[usize]) -> usize
     ensures { result ≡ least (λ i. not (ltb (at row.now i) count)) (length row.now) }
 {
-    for (i, &v) in row.iter().enumerate() {
-        if count <= v {
-            return i;
-        }
-    }
-    row.len()
+    basics::least(row.len(), |i| count <= row[i])
 }
 
 // Refusal 3, 4 or 5, or that the pairs ascend and name rows below the count.
@@ -90,7 +79,8 @@ pub fn check_pairs(count: usize, role: &[usize], row: &[usize]) -> Result<(), Re
     if too_long {
         return Err(Refusal::BadPairColumns);
     }
-    if !either(falls_somewhere(role, row), leaves_somewhere(count, row)) {
+    let wrong = falls_somewhere(role, row) | leaves_somewhere(count, row);
+    if !wrong {
         return Ok(());
     }
     let disorder = first_disorder(role, row);

@@ -1,6 +1,7 @@
 -- How many pairs stay, and what the functions that write them ask for and leave. No contract of an entry point cites
 -- it. Assumes nothing.
-use Rattle.std.specs.Prelude.{◌≡◌, true, cond, List, [], ◌∷◌, ℕ, zero, suc, ◌+◌, ◌≤◌, ℤ, pos, nat_abs, ◌+ℤ◌, length, take, drop, set}
+use Rattle.std.specs.Prelude.{◌≡◌, true, cond, List, [], ◌∷◌, ℕ, zero, suc, ◌+◌, ◌≤◌, ℤ, pos, nat_abs, ◌+ℤ◌, length}
+use Rattle.std.specs.Prelude.{take, drop, set}
 use Rattle.tree.specs.Table.{most_rows, at}
 use Rattle.tree.specs.Pairs.{Pair, pairs_of, roles_of, rows_of}
 use Rattle.tree.specs.StepRules.{PairsFit}

@@ -7,7 +7,6 @@ ghost use Rattle.tree.specs.Table.{seen, at, shortest};
 ghost use Rattle.tree.specs.Refusal.{bad_piece, insert_check};
 ghost use Rattle.table.specs.RowFound.{RowKnown};
 
-use basics::either;
 use tree::{Columns, Refusal};
 
 // Whether a piece would be refused by the check, or begins with a document, or has several trees: then row 0 and its
@@ -24,7 +23,7 @@ fn bad_piece(piece: &Columns<'_>) -> bool
         count,
         ..
     } = *piece;
-    either(kind[0] == 0, size[0] + 1 != count)
+    (kind[0] == 0) | (size[0] + 1 != count)
 }
 
 // Whether one of the first n levels, with add more, is above 63.

@@ -47,16 +47,12 @@ fn beside_key_ok(columns: &Columns<'_>, i: usize) -> bool
 }
 
 // The least row that breaks a rule other than the key's, or the count, looked for row by row.
+#[tactic(auto, unfolding(crate::specs::FirstBad::first_bad_beside_key))]
 fn search_row_by_row(columns: &Columns<'_>) -> usize
     requires { InUse (seen columns.now) }
     ensures { result ≡ first_bad_beside_key (seen columns.now) }
 {
-    for i in 0..columns.count {
-        if !beside_key_ok(columns, i) {
-            return i;
-        }
-    }
-    columns.count
+    basics::least(columns.count, |i| !beside_key_ok(columns, i))
 }
 
 // The least row that is not sound, or the count: by one pass where every row is sound.

@@ -42,7 +42,8 @@ module _ {t : Table} {a : Ask} {up role row : List ℕ} (s : StepReady t a up ro
   -- past the last pair no line is left
   pub step_end : (i : ℕ) → length role ≤ i → step_list t a (pairs_from role row i) ≡ []
   unfolding pairs_of
-  step_end i l = ap (λ (rs : List ℕ). step_list t a (pairs_of rs (drop i row))) (drop_of_length-le role l) ∙ step_none t a
+  step_end i l = ap (λ (rs : List ℕ). step_list t a (pairs_of rs (drop i row))) (drop_of_length-le role l)
+      ∙ step_none t a
 
   -- one role reaches at most all rows
   pub row_most : (i j : ℕ) → length (role_rows t a (run_rows row i j)) ≤ 4096

@@ -145,7 +145,8 @@ module _ {axis : ℕ} {trees : Trees} {test : NodeTest} {cs d : List ℕ} (pre :
   }
 
   -- what the scan of a range on a context's axis asks for
-  pub cover_asks : {out : List ℕ} {next pos : ℕ} → Covered axis trees.level.now trees.count (accepts test) cs d out next pos
+  pub cover_asks : {out : List ℕ} {next pos : ℕ}
+      → Covered axis trees.level.now trees.count (accepts test) cs d out next pos
       → (to : ℕ) → pos ≤ to → to ≤ trees.count → ((w : ℕ) → pos ≤ w → w < to → any_on axis trees.level.now cs w ≡ true)
       → RangeIn test pos to out next
   cover_asks s to l m h = record {

@@ -87,7 +87,8 @@ rows_last f from v l =
     ∙ ap (λ (w : ℕ). rows_in f from v ++ only (f w) w) (let e : from + (v - from) ≡ v = omega arith in e)
 
 -- what passes below a row, and then the k rows from there on
-rows_after_lem : (f : ℕ → Bool) (from k : ℕ) → gather f (from + k) ≡ gather f from ++ rows_from from (λ i. f (from + i)) k
+rows_after_lem : (f : ℕ → Bool) (from k : ℕ)
+    → gather f (from + k) ≡ gather f from ++ rows_from from (λ i. f (from + i)) k
 rows_after_lem f from zero =
     ap (gather f) (add-zero from)
     ∙ sym (ap (λ (l : List ℕ). gather f from ++ l) (rows_none from (λ i. f (from + i))) ∙ append-nil (gather f from))

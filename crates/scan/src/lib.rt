@@ -80,18 +80,18 @@ pub fn emit(test: &NodeTest<'_>, from: usize, to: usize, out: &mut [usize], writ
         out.old written result out.new }
 {
     let NodeTest { want, kind, name } = *test;
-    if want.name != 0 {
-        let part = NodeTest {
-            want,
-            kind: &kind[from..to],
-            name: &name[from..to],
-        };
-        return scan_named(&part, from, out, written);
+    match (want.name, want.kind) {
+        (Some(_), _) => {
+            let part = NodeTest {
+                want,
+                kind: &kind[from..to],
+                name: &name[from..to],
+            };
+            scan_named(&part, from, out, written)
+        }
+        (None, Some(wanted)) => scan_kind(&kind[from..to], from, wanted, out, written),
+        (None, None) => number_rows(from, to - from, out, written),
     }
-    if want.kind != 5 {
-        return scan_kind(&kind[from..to], from, want.kind, out, written);
-    }
-    number_rows(from, to - from, out, written)
 }
 
 // Appends the one row of a range, if there is one and it fits; answers how many are written then.

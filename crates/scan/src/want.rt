@@ -4,11 +4,11 @@ ghost use Rattle.scan.specs.Want.{wanted_kind, want_of, accepts};
 
 use tree::Ask;
 
-// A kind, 5 for any, and a name, 0 for any.
+// A kind, or any, and a name, or any.
 #[derive(Clone, Copy)]
 pub struct Want {
-    pub kind: usize,
-    pub name: usize,
+    pub kind: Option<usize>,
+    pub name: Option<usize>,
 }
 
 // What is wanted, and the columns that say what a row has.
@@ -21,27 +21,29 @@ pub struct NodeTest<'a> {
 
 impl NodeTest<'_> {
     // Whether row w is as wanted.
+    #[tactic(auto, unfolding(crate::specs::Want::fits))]
     pub fn fits(&self, w: usize) -> bool
         requires { (w < length self.now.kind.now) × (w < length self.now.name.now) }
         ensures { result ≡ accepts self.now w }
     {
-        let want = self.want;
-        (want.kind == 5 || self.kind[w] == want.kind)
-            && (want.name == 0 || self.name[w] == want.name)
+        let NodeTest { want, kind, name } = *self;
+        want.kind.is_none_or(|wanted| kind[w] == wanted)
+            && want.name.is_none_or(|wanted| name[w] == wanted)
     }
 }
 
-// The kind that a test code asks for.
-fn wanted_kind(test: usize) -> usize
+// The kind that a test code asks for, if it asks for one.
+#[tactic(auto, unfolding(crate::specs::Want::wanted_kind))]
+fn wanted_kind(test: usize) -> Option<usize>
     ensures { result ≡ wanted_kind test }
 {
     match test {
-        0 => 5,
-        1 | 2 => 1,
-        3 => 2,
-        4 => 3,
-        5 | 6 => 4,
-        _ => 0,
+        0 => None,
+        1 | 2 => Some(1),
+        3 => Some(2),
+        4 => Some(3),
+        5 | 6 => Some(4),
+        _ => Some(0),
     }
 }
 
@@ -51,6 +53,6 @@ pub fn want_of(ask: Ask) -> Want
 {
     Want {
         kind: wanted_kind(ask.test),
-        name: ask.name,
+        name: (ask.name != 0).then_some(ask.name),
     }
 }

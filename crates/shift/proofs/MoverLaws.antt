@@ -34,7 +34,8 @@ moved_up r n by xs end h e =
     let rest : n - r - by ≡ n - (r + by) = omega arith in
     let last : r + (n - r - by) ≡ n - by = omega arith in
     tail_put r xs end ∙ ap (λ (z : List ℕ). take r xs ++ z)
-    (e ∙ ap (λ (m : ℕ). take (n - r - by) (drop by (mid_of r (length xs - r) xs)) ++ drop m (mid_of r (length xs - r) xs))
+    (e ∙ ap (λ (m : ℕ). take (n - r - by) (drop by (mid_of r (length xs - r) xs)) ++ drop m
+    (mid_of r (length xs - r) xs))
     (zero-add (n - r - by))
     ∙ ap (λ (z : List ℕ). take (n - r - by) (drop by z) ++ drop (n - r - by) z) (tail_mid r xs)
     ∙ ap₂ (λ (y z : List ℕ). y ++ z) (ap₂ take rest (drop-drop by r xs))
@@ -57,7 +58,8 @@ store (x ∷ xs) (y ∷ ys) zero h k = refl
 store (x ∷ xs) (y ∷ ys) (suc i) h k =
     ap (λ (l : List ℕ). x ∷ l) (store xs ys i (le_of_suc-le-suc h) (le_of_suc-le-suc k))
 
-pub put_turn : {src xs part : List ℕ} {i v : ℕ} → Put src xs part i → i < length src → i < length xs → v ≡ get_or src i 0
+pub put_turn : {src xs part : List ℕ} {i v : ℕ} → Put src xs part i → i < length src → i < length xs
+    → v ≡ get_or src i 0
     → Put src xs (set part i v) (i + 1)
 put_turn {src} {xs} {part} {i} {v} p h k e = record {
   is = ap₂ (λ (z : List ℕ) (w : ℕ). set z i w) p.is e ∙ store src xs i h k

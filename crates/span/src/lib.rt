@@ -4,7 +4,6 @@
 ghost use Rattle.std.specs.Prelude.{◌-◌, ◌≤◌};
 ghost use Rattle.scan.specs.OneRole.{reached, RoleIn, Wrote};
 
-use basics::greater;
 use scan::trees::Trees;
 use scan::want::NodeTest;
 use scan::{emit, emit_one};
@@ -18,8 +17,8 @@ pub fn own_rows(trees: &Trees<'_>, test: &NodeTest<'_>, rows: &[usize], out: &mu
     let mut next = 0;
     let mut pos = 0;
     for &c in rows {
-        let from = greater(pos, c);
-        let to = greater(from, c + 1);
+        let from = pos.max(c);
+        let to = from.max(c + 1);
         next = emit_one(&test, from, to, out, next);
         pos = to;
     }
@@ -43,8 +42,8 @@ pub fn rows_below(
     let mut next = 0;
     let mut pos = 0;
     for &c in rows {
-        let from = greater(pos, c + first);
-        let to = greater(from, c + size[c] + 1);
+        let from = pos.max(c + first);
+        let to = from.max(c + size[c] + 1);
         next = emit(&test, from, to, out, next);
         pos = to;
     }

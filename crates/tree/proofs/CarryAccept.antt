@@ -109,7 +109,8 @@ module _ (goes : ℕ → Bool) (to : ℕ → ℕ)
   -- and fits the table that its rows come to
   pub pairs_stay : (role row : List ℕ) (old new : ℕ) → ((w : ℕ) → w < old → goes w ≡ false → to w < new)
       → PairsFit role row old
-      → PairsFit (roles_of (carried_by goes to (pairs_of role row))) (rows_of (carried_by goes to (pairs_of role row))) new
+      → PairsFit (roles_of (carried_by goes to (pairs_of role row)))
+      (rows_of (carried_by goes to (pairs_of role row))) new
   pairs_stay role row old new inside f = record {
     even = length_roles _ ∙ sym (length_rows _);
     few = omega (
@@ -176,7 +177,8 @@ module _ (old first : ℕ) (moved : ℤ) (h : MoveFits old first moved) where
 
   -- the new list fits the new table: the next step takes it as it is
   pub carried_fits : (role row : List ℕ) → PairsFit role row old
-      → PairsFit (roles_of (carried first moved (pairs_of role row))) (rows_of (carried first moved (pairs_of role row)))
+      → PairsFit (roles_of (carried first moved (pairs_of role row)))
+      (rows_of (carried first moved (pairs_of role row)))
       h.new
   carried_fits role row f =
       rw (carried_is (pairs_of role row))

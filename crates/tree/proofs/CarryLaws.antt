@@ -39,7 +39,8 @@ module _ (goes : ℕ → Bool) (to : ℕ → ℕ) where
       go false h = omega arith
 
   -- two lists in a row
-  pub carried_append : (ps qs : List Pair) → carried_by goes to (ps ++ qs) ≡ carried_by goes to ps ++ carried_by goes to qs
+  pub carried_append : (ps qs : List Pair)
+      → carried_by goes to (ps ++ qs) ≡ carried_by goes to ps ++ carried_by goes to qs
   unfolding carried_by
   carried_append [] qs = refl
   carried_append (p ∷ ps) qs = go (goes p.row) (carried_append ps qs)

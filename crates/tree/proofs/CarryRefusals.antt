@@ -25,7 +25,8 @@ use Rattle.tree.proofs.CheckLaws.{nand_iff, flat_three, flat_four, flat_five}
 use Rattle.tree.proofs.TableRefusals.{pair_gives, room_gives}
 use Rattle.tree.proofs.StepRefusals.{uneven_pairs, falling_pairs, outside_pairs, no_room}
 use Rattle.std.specs.Prelude.{Ok, Err}
-use Rattle.tree.specs.declared.Refusal.TheVariants.{BadCount, BadPairColumns, PairOutOfOrder, PairOutsideTable, TooManyResults, BadMove}
+use Rattle.tree.specs.declared.Refusal.TheVariants.{BadCount, BadPairColumns, PairOutOfOrder, PairOutsideTable}
+use Rattle.tree.specs.declared.Refusal.TheVariants.{TooManyResults, BadMove}
 use Rattle.tree.specs.declared.Refusal.{Refusal}
 
 -- the answer says what the checks say
@@ -82,7 +83,8 @@ module _ (role row : List ℕ) (old first : ℕ) (moved : ℤ) (outRole outRow :
       (flat_three (skip (given_numbers _ _) refl right_old (stop move_gives refl (falling_pairs role row old p))))
 
   -- 5: a pair's row is not below the old count; the least such place
-  pub carry_outside : (p : ℕ) → ((carry_outcome role row old first moved outRole outRow).answer ≡ Err (PairOutsideTable p))
+  pub carry_outside : (p : ℕ)
+      → ((carry_outcome role row old first moved outRole outRow).answer ≡ Err (PairOutsideTable p))
       ↔ (RightOld old × Even role row × None (Falls role row) (length role)
       × Least (λ i. old ≤ at row i) (length role) p)
   unfolding carry_outcome carry_check

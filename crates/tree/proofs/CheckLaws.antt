@@ -182,7 +182,8 @@ given_numbers b why = record {
   only = λ other e. either_left false (eq-eqb _ _ (ap number (sym ((given_refused b why other).0 e).1)));
 }
 
-pub least_numbers : (f : ℕ → Bool) (n : ℕ) (why : ℕ → Refusal) → Numbers (number (why (least f n)) ∷ []) (given_at f n why)
+pub least_numbers : (f : ℕ → Bool) (n : ℕ) (why : ℕ → Refusal)
+    → Numbers (number (why (least f n)) ∷ []) (given_at f n why)
 unfolding given_at
 least_numbers f n why = given_numbers _ _
 

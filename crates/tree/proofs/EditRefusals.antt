@@ -1,8 +1,8 @@
--- Refusals 10 to 16, of the edits by key. Before them: a refusal of an edit's own check, `by_key_lem`; what the tests of
--- a piece say, `bad_iff`, `taken_iff`. Insertion: `piece_refused`, `parent_refused`, `deep_refused`, `taken_refused`,
--- `full_refused`; deletion: `root_refused`; renaming: `name_refused`. Each names the row r that has the key, so that
--- 1, 2 and 9 do not apply, and says that no other lower number applies, then its own condition, then the place.
--- Assumes nothing.
+-- Refusals 10 to 16, of the edits by key. Before them: a refusal of an edit's own check, `by_key_lem`; what the tests
+-- of a piece say, `bad_iff`, `taken_iff`. Insertion: `piece_refused`, `parent_refused`, `deep_refused`,
+-- `taken_refused`, `full_refused`; deletion: `root_refused`; renaming: `name_refused`. Each names the row r that has
+-- the key, so that 1, 2 and 9 do not apply, and says that no other lower number applies, then its own condition, then
+-- the place. Assumes nothing.
 use mathlib.Core.Path.{◌≡◌, refl, sym, ap, subst, ◌∙◌}
 use mathlib.Core.Logic.Iff
 use mathlib.Core.Logic.{◌↔◌}
@@ -112,7 +112,8 @@ module _ (t : Table) (k : ℕ) (piece : Table) where
   parent_refused p =
       by_key_lem _ k _ (λ r. insert_check t r piece) refl refl refl (λ r.
       flat_three (skip (given_numbers _ _) refl good
-      (stop (next_numbers (given_numbers _ _) (next_numbers (least_numbers _ _ because.KeyTaken) (given_numbers _ _))) refl
+      (stop (next_numbers (given_numbers _ _)
+      (next_numbers (least_numbers _ _ because.KeyTaken) (given_numbers _ _))) refl
       (given_there because.NotAParent r p (λ i j e. cc) (not_passes_iff (above_iff _ _))))))
 
   -- 12: an inserted level would exceed 63

@@ -249,7 +249,11 @@ cases =
     record { call = changes two_bad (1 ∷ []) (30 ∷ []) (0 ∷ []); gives = stops (UnsoundRow 1) 0 4 two_bad } ∷
     record { call = changes two_bad [] [] []; gives = stops (UnsoundRow 1) 0 4 two_bad } ∷
     record { call = changes two_bad (1 ∷ []) (99 ∷ []) (0 ∷ []); gives = stops (UnsoundRow 1) 0 4 two_bad } ∷
-    record { call = changes two_bad (1 ∷ 3 ∷ []) (99 ∷ 30 ∷ []) (0 ∷ 0 ∷ []); gives = stops (UnsoundRow 1) 0 4 two_bad } ∷
+    record {
+      call = changes two_bad (1 ∷ 3 ∷ []) (99 ∷ 30 ∷ []) (0 ∷ 0 ∷ []);
+      gives = stops
+          (UnsoundRow 1) 0 4 two_bad;
+    } ∷
     record { call = changes two_bad (1 ∷ []) [] (0 ∷ []); gives = stops (UnsoundRow 1) 0 4 two_bad } ∷
     record {
       call = changes two_bad (replicate 257 1) (replicate 257 30) (replicate 257 0);
@@ -290,8 +294,8 @@ cases =
 
 -- each call gives what its case says
 pub farm_batch : map (λ c. run c.call) cases ≡ map (λ c. c.gives) cases
-unfolding batch_outcome batch_if batch_check list_check one_by_one unless_refused item_outcome items_of edit_if edit_check
-    delete_outcome rename_outcome given next table_check key_check delete_check rename_check closed changed deleted renamed
-    parent above ancestor other_root level_ok run_of size_of size_ok kind_ok has_name name_ok row_of key_ok beside_key_ok row_ok
-    first_bad shortest count_ok least nearest some_below
+unfolding batch_outcome batch_if batch_check list_check one_by_one unless_refused item_outcome items_of edit_if
+    edit_check delete_outcome rename_outcome given next table_check key_check delete_check rename_check closed changed
+    deleted renamed parent above ancestor other_root level_ok run_of size_of size_ok kind_ok has_name name_ok row_of
+    key_ok beside_key_ok row_ok first_bad shortest count_ok least nearest some_below
 farm_batch = refl

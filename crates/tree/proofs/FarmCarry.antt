@@ -12,7 +12,8 @@ use Rattle.tree.specs.Outcome.{overwritten}
 use Rattle.tree.specs.Carry.{was_deleted, carried_by, carried, old_count_ok, move_ok}
 use Rattle.tree.specs.Carry.{CarryOutcome, carry_if, carry_check, carry_outcome}
 use Rattle.std.specs.Prelude.{Ok, Err}
-use Rattle.tree.specs.declared.Refusal.TheVariants.{BadCount, BadPairColumns, PairOutOfOrder, PairOutsideTable, TooManyResults, BadMove}
+use Rattle.tree.specs.declared.Refusal.TheVariants.{BadCount, BadPairColumns, PairOutOfOrder, PairOutsideTable}
+use Rattle.tree.specs.declared.Refusal.TheVariants.{TooManyResults, BadMove}
 use Rattle.tree.specs.declared.Refusal.{Refusal}
 
 -- pairs, the old count, the first moved row and the move; the result columns have room for so many, and hold 77 and 88
@@ -128,6 +129,6 @@ cases =
 
 -- each call gives what its case says
 pub farm_carries : map (λ c. run c.call) cases ≡ map (λ c. c.gives) cases
-unfolding carry_outcome carry_check carry_if move_ok old_count_ok carried carried_by was_deleted overwritten given given_at next
-    pair_check room_check pairs_of roles_of rows_of before out_of_order least
+unfolding carry_outcome carry_check carry_if move_ok old_count_ok carried carried_by was_deleted overwritten given
+    given_at next pair_check room_check pairs_of roles_of rows_of before out_of_order least
 farm_carries = refl

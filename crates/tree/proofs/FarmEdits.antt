@@ -113,10 +113,11 @@ cases =
 
 -- each call gives what its case says
 pub farm_edits : map (λ c. run c.call) cases ≡ map (λ c. c.gives) cases
-unfolding check_outcome edit_if edit_check insert_outcome delete_outcome rename_outcome given
-    given_at next table_check key_check bad_piece insert_check delete_check rename_check opened closed changed gap_of inserted
-    deleted renamed minus insert_done delete_done rename_done parent above ancestor other_root level_ok run_of size_of size_ok
-    kind_ok has_name name_ok row_of key_ok beside_key_ok row_ok first_bad shortest count_ok least nearest some_below
+unfolding check_outcome edit_if edit_check insert_outcome delete_outcome rename_outcome given given_at next
+    table_check key_check bad_piece insert_check delete_check rename_check opened closed changed gap_of inserted
+    deleted renamed minus insert_done delete_done rename_done parent above ancestor other_root level_ok run_of size_of
+    size_ok kind_ok has_name name_ok row_of key_ok beside_key_ok row_ok first_bad shortest count_ok least nearest
+    some_below
 farm_edits = refl
 
 -- 1 to 4,096 rows, 0 to 4,096 pairs

@@ -57,7 +57,7 @@ cases =
 -- each call gives what its case says
 pub farm_find : map (λ c. run c.call) cases ≡ map (λ c. c.gives) cases
 unfolding find_outcome located standing stands_by edit_if edit_check insert_outcome delete_outcome given given_at next
-    table_check key_check bad_piece insert_check delete_check opened closed changed gap_of inserted deleted minus insert_done
-    delete_done parent above ancestor other_root level_ok run_of size_of size_ok kind_ok has_name name_ok row_of key_ok
-    beside_key_ok row_ok first_bad shortest count_ok least nearest some_below
+    table_check key_check bad_piece insert_check delete_check opened closed changed gap_of inserted deleted minus
+    insert_done delete_done parent above ancestor other_root level_ok run_of size_of size_ok kind_ok has_name name_ok
+    row_of key_ok beside_key_ok row_ok first_bad shortest count_ok least nearest some_below
 farm_find = refl

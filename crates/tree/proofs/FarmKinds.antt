@@ -108,11 +108,11 @@ cases =
 
 -- each call gives what its case says
 pub farm_of_kinds : map (λ c. run c.call) cases ≡ map (λ c. c.gives) cases
-unfolding check_outcome step_outcome step_if step_check overwritten given given_at next table_check pair_check ask_check
-    room_check drops remaining kept_count listed reached lines_of step_list pairs_of with_role roles_of rows_of before
-    out_of_order some distinct test_ok passes axis_ok following preceding on_axis parent above ancestor siblings root
-    same_tree level_ok run_of size_of size_ok kind_ok has_name name_ok row_of key_ok beside_key_ok row_ok first_bad shortest count_ok
-    least nearest gather
+unfolding check_outcome step_outcome step_if step_check overwritten given given_at next table_check pair_check
+    ask_check room_check drops remaining kept_count listed reached lines_of step_list pairs_of with_role roles_of
+    rows_of before out_of_order some distinct test_ok passes axis_ok following preceding on_axis parent above ancestor
+    siblings root same_tree level_ok run_of size_of size_ok kind_ok has_name name_ok row_of key_ok beside_key_ok
+    row_ok first_bad shortest count_ok least nearest gather
 farm_of_kinds = refl
 
 -- a code that does not exist: no row passes the test, none is on the axis

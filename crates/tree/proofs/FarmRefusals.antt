@@ -25,7 +25,8 @@ use Rattle.tree.proofs.FarmCalls.Call.{check, step, find, insert, delete, rename
 use Rattle.tree.proofs.FarmCalls.Gives.{checked, stepped, found}
 use Rattle.std.specs.Prelude.{Err}
 use Rattle.tree.specs.declared.Refusal.TheVariants.{BadCount, UnsoundRow, BadTest}
-use Rattle.tree.specs.declared.Refusal.TheVariants.{BadPairColumns, PairOutOfOrder, PairOutsideTable, BadAxis, UnknownKey, BadPiece, NotAParent, TooDeep, KeyTaken}
+use Rattle.tree.specs.declared.Refusal.TheVariants.{BadPairColumns, PairOutOfOrder, PairOutsideTable, BadAxis}
+use Rattle.tree.specs.declared.Refusal.TheVariants.{UnknownKey, BadPiece, NotAParent, TooDeep, KeyTaken}
 
 -- the calls, with what each gives
 abbrev pub cases : List Case
@@ -70,9 +71,10 @@ cases =
 -- each call gives what its case says
 pub lowest_given : map (λ c. run c.call) cases ≡ map (λ c. c.gives) cases
 unfolding check_outcome find_outcome located step_outcome step_if step_check overwritten edit_if edit_check
-    insert_outcome delete_outcome rename_outcome given given_at next table_check pair_check ask_check room_check key_check
-    bad_piece insert_check delete_check rename_check gap_of insert_done delete_done rename_done drops remaining kept_count listed
-    reached lines_of step_list pairs_of with_role roles_of rows_of before out_of_order some distinct test_ok passes axis_ok
-    following preceding on_axis parent above ancestor siblings root same_tree other_root level_ok run_of size_of size_ok kind_ok
-    has_name name_ok row_of key_ok beside_key_ok row_ok first_bad shortest count_ok least nearest some_below gather
+    insert_outcome delete_outcome rename_outcome given given_at next table_check pair_check ask_check room_check
+    key_check bad_piece insert_check delete_check rename_check gap_of insert_done delete_done rename_done drops
+    remaining kept_count listed reached lines_of step_list pairs_of with_role roles_of rows_of before out_of_order
+    some distinct test_ok passes axis_ok following preceding on_axis parent above ancestor siblings root same_tree
+    other_root level_ok run_of size_of size_ok kind_ok has_name name_ok row_of key_ok beside_key_ok row_ok first_bad
+    shortest count_ok least nearest some_below gather
 lowest_given = refl

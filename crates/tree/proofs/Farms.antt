@@ -266,12 +266,12 @@ cases =
 -- each call gives what its case says
 pub several_farms : map (λ c. run c.call) cases ≡ map (λ c. c.gives) cases
 unfolding check_outcome find_outcome located standing stands_by step_outcome step_if step_check overwritten edit_if
-    edit_check insert_outcome delete_outcome rename_outcome given given_at next table_check pair_check ask_check room_check
-    key_check bad_piece insert_check delete_check rename_check opened closed changed gap_of inserted deleted renamed minus
-    insert_done delete_done rename_done drops remaining kept_count listed reached lines_of step_list pairs_of with_role roles_of
-    rows_of before out_of_order some distinct test_ok passes axis_ok following preceding on_axis parent above ancestor
-    siblings root same_tree other_root level_ok run_of size_of size_ok kind_ok has_name name_ok row_of key_ok beside_key_ok row_ok
-    first_bad shortest count_ok least nearest some_below gather
+    edit_check insert_outcome delete_outcome rename_outcome given given_at next table_check pair_check ask_check
+    room_check key_check bad_piece insert_check delete_check rename_check opened closed changed gap_of inserted
+    deleted renamed minus insert_done delete_done rename_done drops remaining kept_count listed reached lines_of
+    step_list pairs_of with_role roles_of rows_of before out_of_order some distinct test_ok passes axis_ok following
+    preceding on_axis parent above ancestor siblings root same_tree other_root level_ok run_of size_of size_ok kind_ok
+    has_name name_ok row_of key_ok beside_key_ok row_ok first_bad shortest count_ok least nearest some_below gather
 several_farms = refl
 
 -- preceding on each farm by itself: what it lists and keeps, and that the whole call above has the sums
@@ -279,6 +279,6 @@ pub farms_parts : (map (tree_results farms (ask_of 9 0 0) held) (0 ∷ 4 ∷ 7 �
     × (map (tree_kept farms 9 held) (0 ∷ 4 ∷ 7 ∷ []) ≡ 2 ∷ 2 ∷ 1 ∷ [])
     × (over_trees farms (tree_results farms (ask_of 9 0 0) held) ≡ 3)
     × (over_trees farms (tree_kept farms 9 held) ≡ 5)
-unfolding pairs_in sum_where carried_by drops remaining kept_count listed reached lines_of step_list pairs_of with_role some
-    distinct passes preceding on_axis parent above ancestor root same_tree nearest gather
+unfolding pairs_in sum_where carried_by drops remaining kept_count listed reached lines_of step_list pairs_of
+    with_role some distinct passes preceding on_axis parent above ancestor root same_tree nearest gather
 farms_parts = (refl, refl, refl, refl)

@@ -71,7 +71,8 @@ module _ (t : Table) where
   unfolding find_outcome next located
   find_none k = (go (table_check t) refl, λ h. find_sound h.0 k ∙ rw ((no_key t k).1 h.1))
     where
-      none : (b : Bool) → ltb (row_in t k) t.count ≡ b → cond b (found_at t (row_in t k)) (Err UnknownKey) ≡ Err UnknownKey
+      none : (b : Bool) → ltb (row_in t k) t.count ≡ b
+          → cond b (found_at t (row_in t k)) (Err UnknownKey) ≡ Err UnknownKey
           → NoKey t k
       none true p e = let z : ◌≡◌ {A = ℕ} 0 1 = cc in absurd (omega arith)
       none false p e = (no_key t k).0 p

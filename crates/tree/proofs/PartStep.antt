@@ -1,7 +1,7 @@
 -- A step seen in one tree of a table is the step on that tree alone, as a table of its own: RULES 02, E2. Its pairs
--- there are `pairs_in_lem` and fit the tree, `pairs_fit`. The lines in the tree are those that the step on the tree lists,
--- `step_part`; the pairs that remain there for the kept count are those that remain in the tree, `kept_part`. Assumes
--- nothing.
+-- there are `pairs_in_lem` and fit the tree, `pairs_fit`. The lines in the tree are those that the step on the tree
+-- lists, `step_part`; the pairs that remain there for the kept count are those that remain in the tree, `kept_part`.
+-- Assumes nothing.
 use mathlib.Core.Path.{◌≡◌, refl, sym, ap, ap₂, subst, ◌∙◌}
 use mathlib.Core.Logic.{inl, inr, ⊎_elim, ◌↔◌}
 use mathlib.Core.Bool.{Bool, true, false, cond, not, ◌&&◌, ◌||◌, true≢false, and-false}

@@ -1,6 +1,7 @@
 -- A signed move in row numbers: what it does to one row it does to every later one, `move_adds`. Refusal 17 does not
--- apply exactly if the move fits, `move_ok_lem`. Then the row after the edit is `new_row`, `new_row_lem`, and the rows from
--- where the first moved row stands afterwards up to where it stood are the deleted ones, `gone_row_lem`. Assumes nothing.
+-- apply exactly if the move fits, `move_ok_lem`. Then the row after the edit is `new_row`, `new_row_lem`, and the
+-- rows from where the first moved row stands afterwards up to where it stood are the deleted ones, `gone_row_lem`.
+-- Assumes nothing.
 use mathlib.Core.Path.{◌≡◌, refl, ap, subst, ◌∙◌}
 use mathlib.Core.Logic.{◌↔◌}
 use mathlib.Core.Bool.{Bool, true, false, cond, ◌&&◌, false≢true}

@@ -30,7 +30,8 @@ use Rattle.tree.proofs.CheckLaws.{least_unless, given_numbers, least_numbers, ne
 use Rattle.tree.proofs.CheckLaws.{flat_three, flat_four, flat_five}
 use Rattle.tree.proofs.TableRefusals.{pair_gives, ask_gives, room_gives, after_table}
 use Rattle.std.specs.Prelude.{Err}
-use Rattle.tree.specs.declared.Refusal.TheVariants.{BadPairColumns, PairOutOfOrder, PairOutsideTable, BadAxis, BadTest, TooManyResults}
+use Rattle.tree.specs.declared.Refusal.TheVariants.{BadPairColumns, PairOutOfOrder, PairOutsideTable, BadAxis}
+use Rattle.tree.specs.declared.Refusal.TheVariants.{BadTest, TooManyResults}
 
 -- ── the pairs, in a table of n rows ──
 -- a pair is out of order exactly if it falls

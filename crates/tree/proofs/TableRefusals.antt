@@ -80,7 +80,8 @@ of_edited_lem (Err why) d t' t = refl
 
 -- each call
 pub refusal_is : (c : Request) → refusal c ≡ next (table_check (table_in c)) (later_check c)
-unfolding refusal check_outcome find_outcome step_outcome step_check insert_outcome delete_outcome rename_outcome edit_check
+unfolding refusal check_outcome find_outcome step_outcome step_check insert_outcome delete_outcome rename_outcome
+    edit_check
 refusal_is (check t) = next_none (table_check t)
 refusal_is (find t k) = of_found_lem (table_check t) t k
 refusal_is (step t role row a outRole outRow) = of_stepped_lem _ _ _ _ _
@@ -185,10 +186,12 @@ module _ (c : Request) where
       same_refusal (refusal_is c)
       (stop (later_gives c) (later_other c).1
       (skip (given_numbers _ _) refl (given_unless _ (not_fails_iff (count_ok_lem (table_in c))))
-      (least_when (λ i. not (row_ok (table_in c) i)) _ UnsoundRow (λ i. not_iff (row_ok_lem (table_in c) i)) (λ i j e. cc) p)))
+      (least_when (λ i. not (row_ok (table_in c) i)) _ UnsoundRow (λ i. not_iff (row_ok_lem (table_in c) i))
+      (λ i j e. cc) p)))
 
 -- ── a refusal of a later check: the table is sound ──
-pub after_table : (c : Request) (why : Refusal) {A : Type 0} → has (number why) (1 ∷ 2 ∷ []) ≡ false → (later_check c ≡ Err why) ↔ A
+pub after_table : (c : Request) (why : Refusal) {A : Type 0} → has (number why) (1 ∷ 2 ∷ []) ≡ false
+    → (later_check c ≡ Err why) ↔ A
     → (refusal c ≡ Err why) ↔ (Sound (table_in c) × A)
 after_table c why o h = same_refusal (refusal_is c) (skip (table_gives (table_in c)) o (table_passes (table_in c)) h)
 

@@ -1,7 +1,7 @@
 -- A step on a table of several trees is the steps on its trees, each as a table of its own, together: RULES 02, E2. A
 -- list of pairs is its trees' parts, `parts_together`; so results and kept count are the sums over the trees,
--- `results_trees`, `kept_trees_lem`. Of the calls themselves, in one sentence: `step_trees`. What is seen in one tree is in
--- PartStep.antt. Assumes nothing.
+-- `results_trees`, `kept_trees_lem`. Of the calls themselves, in one sentence: `step_trees`. What is seen in one tree
+-- is in PartStep.antt. Assumes nothing.
 use mathlib.Core.Path.{◌≡◌, refl, sym, ap, ap₂, subst, ◌∙◌}
 use mathlib.Core.Logic.{inl, inr, ⊎_elim}
 use mathlib.Core.Bool.{Bool, true, false, cond, not, true≢false}
@@ -130,7 +130,8 @@ module _ (t : Table) (s : Sound t) where
   module _ (a : Ask) (role row : List ℕ) (f : PairsFit role row t.count) where
     -- the lines of a step with these pairs in a tree
     tree_lines : (r : ℕ) → r < t.count → at t.level r ≡ 0
-        → pairs_in t r (step_list t a (pairs_of role row)) ≡ step_list (tree_at t r) a (pairs_in t r (pairs_of role row))
+        → pairs_in t r (step_list t a (pairs_of role row)) ≡ step_list (tree_at t r) a
+        (pairs_in t r (pairs_of role row))
     tree_lines r l z =
         step_part t s r l z a (pairs_of role row) (pairs_below t.count role row f.inside)
         (pairs_ordered role row t.count ((pair_passes role row t.count).1 f))
@@ -147,7 +148,8 @@ module _ (t : Table) (s : Sound t) where
     -- with room the step on a tree alone is accepted, and lists the lines that lie in the tree
     tree_accepted : (1 ≤ a.axis) × (a.axis ≤ 11) → TestRule a.test a.name
         → (r : ℕ) → r < t.count → at t.level r ≡ 0 → (outRole outRow : List ℕ)
-        → tree_results t a (pairs_of role row) r ≤ length outRole → tree_results t a (pairs_of role row) r ≤ length outRow
+        → tree_results t a (pairs_of role row) r ≤ length outRole
+        → tree_results t a (pairs_of role row) r ≤ length outRow
         → tree_step t role row a r outRole outRow
         ≡ step_if passed (pairs_in t r (step_list t a (pairs_of role row))) (tree_kept t a.axis (pairs_of role row) r)
         outRole outRow
@@ -174,7 +176,8 @@ same_tally x y e = cc
 
 -- 02: an accepted step on a table of several trees gives what the steps on its trees give together
 pub step_trees : (t : Table) (role row : List ℕ) (a : Ask) (outRole outRow : List ℕ) (results kept : ℕ)
-    → (step_outcome t role row a outRole outRow).answer ≡ Ok (record { listed = results; kept = kept }) → Together t role row a results kept
+    → (step_outcome t role row a outRole outRow).answer ≡ Ok (record { listed = results; kept = kept })
+    → Together t role row a results kept
 unfolding step_outcome step_if
 step_trees t role row a outRole outRow results kept = go (step_check t role row a outRole outRow) refl
   where

@@ -1,7 +1,8 @@
 -- Grants that move with their rows: RULES 02, E1, and E2, by which the first moved row may come to row 0. A list of
 -- pairs is carried over an edit by the old count and by what the edit answered, its first moved row and its move. For
 -- edits that the library accepted each pair keeps its key: carry/proofs/GrantLaws.antt. Assumes nothing.
-use Rattle.std.specs.Prelude.{ℕ, Bool, cond, not, Result, Ok, Err, ◌&&◌, List, [], ◌∷◌, ltb, leb, ℤ, pos, nat_abs, ◌+ℤ◌, length}
+use Rattle.std.specs.Prelude.{ℕ, Bool, cond, not, Result, Ok, Err, ◌&&◌, List, [], ◌∷◌, ltb, leb, ℤ, pos, nat_abs}
+use Rattle.std.specs.Prelude.{◌+ℤ◌, length}
 use Rattle.std.specs.Int.Signed.{le_z}
 use Rattle.tree.specs.Table.{most_rows}
 use Rattle.tree.specs.Pairs.{Pair, pair, pairs_of, roles_of, rows_of}

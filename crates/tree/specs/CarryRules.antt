@@ -18,7 +18,8 @@ pub record MoveFits (old first : ℕ) (moved : ℤ) : Type 0 where
   pub rows : 1 ≤ new
   pub few : new ≤ most_rows
 
--- the old count is 1 to `most_rows`, the pairs fit it, the move fits, and both result columns have room for the new list
+-- the old count is 1 to `most_rows`, the pairs fit it, the move fits, and both result columns have room for the new
+-- list
 pub record CarryFits (role row : List ℕ) (old first : ℕ) (moved : ℤ) (outRole outRow : List ℕ) : Type 0 where
   pub some : 1 ≤ old
   pub few : old ≤ most_rows

@@ -42,7 +42,8 @@ over_trees t g = sum_where (λ r. eqb (at t.level r) 0) g t.count
 -- what it answers and leaves in these result columns
 abbrev pub tree_step : Table → List ℕ → List ℕ → Ask → ℕ → List ℕ → List ℕ → StepOutcome
 tree_step t role row a r outRole outRow =
-    step_outcome (tree_at t r) (roles_of (pairs_in t r (pairs_of role row))) (rows_of (pairs_in t r (pairs_of role row))) a
+    step_outcome (tree_at t r) (roles_of (pairs_in t r (pairs_of role row)))
+    (rows_of (pairs_in t r (pairs_of role row))) a
     outRole outRow
 
 -- how many results it has

@@ -26,8 +26,10 @@ module _ (c : In-loop-i) where
 pub loop-i-preserved : goal.loop-i-preserved
 loop-i-preserved c = (
   rw c.after_item-so_far.ensures
-      (so_far_later _ _ _ (left (goal.at.loop-i-preserved c).In-loop-i).2 (left (goal.at.loop-i-preserved c).In-loop-i).3 _ c.loop-i.so_far _ refl
-      c.loop-i.invariant.0 (goes (goal.at.loop-i-preserved c).In-loop-i) c.edit_item-edited.result c.edit_item-edited.ensures),
+      (so_far_later _ _ _ (left (goal.at.loop-i-preserved c).In-loop-i).2
+      (left (goal.at.loop-i-preserved c).In-loop-i).3 _ c.loop-i.so_far _ refl
+      c.loop-i.invariant.0 (goes (goal.at.loop-i-preserved c).In-loop-i) c.edit_item-edited.result
+      c.edit_item-edited.ensures),
   search rules,
   search rules,
   search rules,
@@ -37,5 +39,6 @@ loop-i-preserved c = (
 
 pub returns : goal.returns
 returns c =
-    let list = c.requires.good_list in so_far_end _ _ _ list.keys list.names _ c.loop-i.so_far _ refl c.loop-i.invariant.0
+    let list = c.requires.good_list in so_far_end _ _ _ list.keys list.names _ c.loop-i.so_far _ refl
+    c.loop-i.invariant.0
     (sym c.goes_on.ensures ∙ c.loop-i-test.false)

@@ -10,9 +10,12 @@ use Rattle.batch.proofs.do_items.Given as goal
 
 abbrev pub invariant-loop-i : goal.invariant-loop-i
 invariant-loop-i l =
-    SoFar (items_of l.item_code l.item_key l.item_name) (table_of l.initial.key l.initial.size l.initial.level l.initial.kind l.initial.name l.count) (length l.item_code) l.so_far
+    SoFar (items_of l.item_code l.item_key l.item_name)
+    (table_of l.initial.key l.initial.size l.initial.level l.initial.kind l.initial.name l.count)
+    (length l.item_code) l.so_far
     (table_of l.key l.size l.level l.kind l.name l.so_far.count)
-    × (length l.key ≡ length l.initial.key) × (length l.size ≡ length l.initial.size) × (length l.level ≡ length l.initial.level)
+    × (length l.key ≡ length l.initial.key) × (length l.size ≡ length l.initial.size)
+    × (length l.level ≡ length l.initial.level)
     × (length l.kind ≡ length l.initial.kind) × (length l.name ≡ length l.initial.name)
 
 abbrev pub decreases-loop-i : goal.decreases-loop-i

@@ -17,13 +17,13 @@ returns-then-short c =
     let e = rw back at (sym c.check_call.ensures ∙ c.in_ok-check_call.was) in
     let l = rw back at c.moved_to-to.ensures in
     leaves_full _ _ _ _ _ _ _ e _ _ l c.count_left-left.ensures
-    (omega (arith, c.if-short.true, c.smaller.ensures))
+    (omega (arith, c.if-short.true))
 
 pub write-requires : goal.write-requires
 write-requires c =
     call_ready _ _ _ _ _ _ _ (sym c.check_call.ensures ∙ c.in_ok-check_call.was)
     _ _ c.moved_to-to.ensures c.count_left-left.ensures
-    (omega (arith, c.if-short.false, c.smaller.ensures))
+    (omega (arith, c.if-short.false))
 
 pub returns-in_err-check_call : goal.returns-in_err-check_call
 returns-in_err-check_call c =
@@ -38,5 +38,5 @@ returns c =
     let e = rw back at (sym c.check_call.ensures ∙ c.in_ok-check_call.was) in
     let l = rw back at c.moved_to-to.ensures in
     leaves_written _ _ _ _ _ _ _ e _ _ l c.count_left-left.ensures
-    (omega (arith, c.if-short.false, c.smaller.ensures))
+    (omega (arith, c.if-short.false))
     (rw back at c.write.ensures)

@@ -27,4 +27,5 @@ delete_at-requires c = known _ _ c.check_columns.ensures c.in_ok-check_columns.w
 
 pub returns : goal.returns
 returns c =
-    rw (delete_found _ _ c.check_columns.ensures c.in_ok-check_columns.was c.locate-found.ensures c.in-Ok.is) c.delete_at.ensures
+    rw (delete_found _ _ c.check_columns.ensures c.in_ok-check_columns.was c.locate-found.ensures c.in-Ok.is)
+    c.delete_at.ensures

@@ -27,4 +27,5 @@ insert_at-requires c = known _ _ c.check_columns.ensures c.in_ok-check_columns.w
 
 pub returns : goal.returns
 returns c =
-    rw (insert_found _ _ c.check_columns.ensures c.in_ok-check_columns.was c.locate-found.ensures c.in-Ok.is _) c.insert_at.ensures
+    rw (insert_found _ _ c.check_columns.ensures c.in_ok-check_columns.was c.locate-found.ensures c.in-Ok.is _)
+    c.insert_at.ensures

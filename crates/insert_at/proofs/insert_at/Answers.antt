@@ -16,6 +16,7 @@ lent s =
 pub returns-in_err-check_piece : goal.returns-in_err-check_piece
 returns-in_err-check_piece c =
     let t : Table = lent (goal.at.returns-in_err-check_piece c).Start in
-    let check = c.check_piece.ensures ∙ ap (λ (r : ℕ). insert_check t r (seen c.args.piece.now)) c.row_there-row.ensures in
+    let check = c.check_piece.ensures ∙ ap
+    (λ (r : ℕ). insert_check t r (seen c.args.piece.now)) c.row_there-row.ensures in
     let p = err_from_is_err_and c.from_residual.result c.from_residual.ensures.1 in
     rw (p.1, p.2) (leaves t (own_refused _ _ t (sym check ∙ c.in_err-check_piece.was)))

@@ -5,18 +5,15 @@ use Rattle.tree.specs.Refusal.{given}
 use Rattle.tree.specs.Batch.{list_check}
 use Rattle.items.proofs.check_list.Goals as goal
 
-pub returns-then-either : goal.returns-then-either
+pub returns-then-no_list : goal.returns-then-no_list
 unfolding list_check given some_below
-returns-then-either c = rw (← c.either.ensures, ← c.either-2.ensures, c.if-either.true)
+returns-then-no_list c = rw c.if-no_list.true
 
 pub returns-then-wrong : goal.returns-then-wrong
 unfolding list_check given some_below
 returns-then-wrong c =
-    let even = c in
     rw (
-      ← even.either.ensures,
-      ← even.either-2.ensures,
-      even.if-either.false,
+      c.if-no_list.false,
       ← c.first_wrong-first.ensures,
       lt-ltb _ _ c.if-wrong.true,
     )
@@ -24,11 +21,8 @@ returns-then-wrong c =
 pub returns : goal.returns
 unfolding list_check given some_below
 returns c =
-    let even = c in
     rw (
-      ← even.either.ensures,
-      ← even.either-2.ensures,
-      even.if-either.false,
+      c.if-no_list.false,
       ← c.first_wrong-first.ensures,
       le-ltb _ _ c.if-wrong.false,
     )

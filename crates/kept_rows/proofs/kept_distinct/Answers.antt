@@ -1,18 +1,24 @@
--- `kept_rows::kept_distinct` meets its contract. The invariant: of the first i contexts the last is counted, and the
--- distinct ones below it. Assumes nothing.
-use Rattle.kept_rows.proofs.KeptPassLaws.{pass_start, own_count, own_skip, own_done}
+-- `kept_rows::kept_distinct` meets its contract. Assumes nothing.
+use mathlib.Core.Path.{◌≡◌, ◌∙◌}
+use mathlib.Core.Bool.{Bool}
+use Prim.Native.Nat.{ℕ, ◌+◌, ◌-◌}
+use native.Mathlib.Omega.{arith}
+use native.Mathlib.Nat.{le_refl}
+use lib.Dec.{ltb}
+use lib.ListN.{length}
+use borrow.Author.Tests.{ltb-true, ltb-false}
+use Rattle.std.proofs.Common.{rules}
+use Rattle.tree.specs.Table.{at}
+use Rattle.kept_rows.proofs.KeptPassLaws.{Passed, pass_start, own_count, own_skip, own_done}
+use Rattle.kept_rows.proofs.EndLaws.{ends_all}
 use Rattle.kept_rows.proofs.kept_distinct.Goals as goal
-use Rattle.kept_rows.proofs.kept_distinct.Goals.{else-rows-i, then-rows-i}
-
-pub loop-i-init : goal.loop-i-init
-loop-i-init c = pass_start 1 c.requires.0 c.requires.1
-
-pub loop-i-preserved : goal.loop-i-preserved
-loop-i-preserved c =
-    elim c.if-rows-i.branch [
-      | then-rows-i w ↦ rw w.kept-is (own_count c.requires.0 c.loop-i.invariant c.loop-i-test.true w.if-rows-i.true)
-      | else-rows-i w ↦ rw w.kept-is (own_skip c.requires.0 c.loop-i.invariant c.loop-i-test.true w.if-rows-i.false)
-    ]
 
 pub returns : goal.returns
-returns c = own_done c.requires.0 c.loop-i.invariant c.loop-i-test.false
+returns c =
+    let p = c.requires.0 in
+    let cs = c.args.rows.now in
+    let f : ℕ → Bool = λ i. ltb (at cs (i - 1)) (at cs i) in
+    c.count_ends.ensures f (λ i b m l q. search rules)
+    ∙ own_done p (ends_all (Passed 1 c.args.trees.now.level.now cs) f (length cs) (pass_start 1 p c.requires.1)
+    (λ k i s l e. own_count p s l (ltb-true _ _ e))
+    (λ k i s l e. let z : k + 0 ≡ k = omega arith in rw z (own_skip p s l (ltb-false _ _ e))) c.requires.1) (le_refl _)

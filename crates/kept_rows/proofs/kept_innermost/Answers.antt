@@ -1,34 +1,36 @@
--- `kept_rows::kept_innermost` meets its contract. The invariant: of the first i contexts the last is counted, and
--- those below it that are ancestors of no other. Assumes nothing.
-use Prim.Native.Nat.{◌+◌, ◌-◌, ◌<◌, ◌≤◌}
+-- `kept_rows::kept_innermost` meets its contract. Assumes nothing.
+use mathlib.Core.Path.{◌≡◌, ◌∙◌}
+use mathlib.Core.Bool.{Bool}
+use Prim.Native.Nat.{ℕ, ◌+◌, ◌-◌}
+use native.Mathlib.Nat.{le_refl}
 use native.Mathlib.Omega.{arith}
+use lib.Dec.{ltb}
 use lib.ListN.{length}
+use borrow.Author.Tests.{ltb-true, ltb-false}
+use Rattle.std.proofs.Common.{rules}
+use Rattle.std.proofs.iter.Serving.{serving}
 use Rattle.tree.specs.Table.{at}
 use Rattle.tree.proofs.SoundLaws.{shape_fits}
-use Rattle.kept_rows.proofs.KeptPassLaws.{pass_start, inner_count, inner_skip, inner_done}
+use Rattle.kept_rows.proofs.KeptPassLaws.{Passed, pass_start, inner_count, inner_skip, inner_done}
+use Rattle.kept_rows.proofs.EndLaws.{ends_all}
 use Rattle.kept_rows.proofs.kept_innermost.Goals as goal
-use Rattle.kept_rows.proofs.kept_innermost.Goals.{In-loop-i, else-c-size, then-c-size}
-
--- the context and its descendants are rows in use, of which there are few
-inside : (c : In-loop-i) → (let a = c.args in let w = at a.rows.now (c.loop-i.i - 1) in
-    (w + at a.trees.now.size.now w < a.trees.now.count) × (a.trees.now.count ≤ 4096)
-    × (a.trees.now.count ≤ length a.trees.now.size.now))
-inside c =
-    let s = c.args.trees.now.shape in
-    (shape_fits s _ (c.requires.0.contexts.inside (c.loop-i.i - 1) (omega arith)), s.few, s.in_size)
-
-pub loop-i-init : goal.loop-i-init
-loop-i-init c = pass_start 6 c.requires.0 c.requires.1
-
-pub overflow_add-c : goal.overflow_add-c
-overflow_add-c c = omega (arith, inside (goal.at.overflow_add-c c).In-loop-i)
-
-pub loop-i-preserved : goal.loop-i-preserved
-loop-i-preserved c =
-    elim c.if-c-size.branch [
-      | then-c-size w ↦ rw w.kept-is (inner_count c.requires.0 c.loop-i.invariant c.loop-i-test.true w.if-c-size.true)
-      | else-c-size w ↦ rw w.kept-is (inner_skip c.requires.0 c.loop-i.invariant c.loop-i-test.true w.if-c-size.false)
-    ]
 
 pub returns : goal.returns
-returns c = inner_done c.requires.0 c.loop-i.invariant c.loop-i-test.false
+returns c =
+    let p = c.requires.0 in
+    let cs = c.args.rows.now in
+    let size = c.args.trees.now.size.now in
+    let f : ℕ → Bool = λ i. ltb (at cs (i - 1) + at size (at cs (i - 1))) (at cs i) in
+    c.count_ends.ensures f (λ i b m l q. search rules)
+    ∙ inner_done p (ends_all (Passed 6 c.args.trees.now.level.now cs) f (length cs) (pass_start 6 p c.requires.1)
+    (λ k i s l e. inner_count p s l (ltb-true _ _ e))
+    (λ k i s l e. let z : k + 0 ≡ k = omega arith in rw z (inner_skip p s l (ltb-false _ _ e))) c.requires.1) (le_refl _)
+
+-- each context and its descendants are rows in use, of which there are few
+pub count_ends-requires-clause-met : goal.count_ends-requires-clause-met
+count_ends-requires-clause-met c i m l =
+    let s = c.args.trees.now.shape in
+    let q = shape_fits s _ (c.requires.0.contexts.inside (i - 1) (omega arith)) in
+    let few = s.few in
+    let room = s.in_size in
+    grind serving

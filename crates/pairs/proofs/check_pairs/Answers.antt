@@ -1,11 +1,9 @@
 -- `pairs::check_pairs` meets its contract: the refusals in their order. Assumes nothing.
-use mathlib.Core.Path.{sym, ◌∙◌}
-use borrow.Author.Tests.{lt-ltb, le-ltb, eq-eqb, ne_eqb, not-true}
+use mathlib.Core.Path.{sym}
+use borrow.Author.Tests.{lt-ltb, le-ltb, eq-eqb, ne_eqb}
 use Rattle.tree.specs.Refusal.{given, given_at, next, pair_check}
 use Rattle.tree.proofs.AcceptLaws.{neither}
 use Rattle.pairs.proofs.PairLaws.{pair_check_is, pairs_pass}
-use mathlib.Core.Path.{ap}
-use mathlib.Core.Bool.{not}
 use Rattle.pairs.proofs.check_pairs.Goals as goal
 
 pub returns-then-role-row : goal.returns-then-role-row
@@ -16,9 +14,9 @@ pub returns-then-too_long : goal.returns-then-too_long
 unfolding pair_check given next
 returns-then-too_long c = simp (eq-eqb _ _ c.if-role-row.false, lt-ltb _ _ c.if-too_long.true)
 
-pub returns-then-not-either : goal.returns-then-not-either
-returns-then-not-either c =
-    let none = neither _ _ (sym c.either.ensures ∙ not-true c.either.result (ap not c.if-not-either.true)) in
+pub returns-then-not-wrong : goal.returns-then-not-wrong
+returns-then-not-wrong c =
+    let none = neither _ _ c.if-not-wrong.true in
     sym (pairs_pass _ _ _ c.if-role-row.false
     c.if-too_long.false
     (c.falls_somewhere.ensures none.0)

@@ -12,7 +12,9 @@ loop-i-init c = writing_none _ _ _ _ _ _ c.requires.ready
 
 pub loop-i-preserved : goal.loop-i-preserved
 loop-i-preserved c =
-    let pre = c.requires.ready in let test = c.loop-i-test.true in let back = to_z-of_z {w = w64} {z = c.args.edit.moved}
+    let pre = c.requires.ready in
+    let test = c.loop-i-test.true in
+    let back = to_z-of_z {w = w64} {z = c.args.edit.moved}
     (record { sfits = omega (arith, c.struct_told-1.given.1.1.0) }) in
     let l = writing_reads _ _ _ _ _ _ pre c.loop-i.invariant test in
     let stays = each_stays _ _ c.args.row.now (sym pre.many ∙ c.requires.left_value) c.loop-i.i

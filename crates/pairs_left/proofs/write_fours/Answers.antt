@@ -16,8 +16,12 @@ put_four-n-requires c =
 
 pub loop-n-smaller : goal.loop-n-smaller
 loop-n-smaller c =
-    let pre = c.requires in let test = c.loop-n-test.true in omega (arith, writing_ahead _ _ _ _ _ _ pre c.loop-n.invariant, test)
+    let pre = c.requires in
+    let test = c.loop-n-test.true in
+    omega (arith, writing_ahead _ _ _ _ _ _ pre c.loop-n.invariant, test)
 
 pub loop-n-preserved : goal.loop-n-preserved
 loop-n-preserved c =
-    let pre = c.requires in let test = c.loop-n-test.true in writing_puts _ _ _ _ _ _ pre c.loop-n.invariant test c.put_four-n.ensures
+    let pre = c.requires in
+    let test = c.loop-n-test.true in
+    writing_puts _ _ _ _ _ _ pre c.loop-n.invariant test c.put_four-n.ensures

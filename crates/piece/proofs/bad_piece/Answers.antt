@@ -23,8 +23,8 @@ bounds-kind-0 c = (piece_rows _ (good (goal.at.bounds-kind-0 c).Else-is_err)).0
 pub bounds-size-0 : goal.bounds-size-0
 bounds-size-0 c = (piece_rows _ (good (goal.at.bounds-size-0 c).Else-is_err)).1
 
-pub overflow_add-size : goal.overflow_add-size
-overflow_add-size c = let r = piece_rows _ (good (goal.at.overflow_add-size c).Else-is_err) in omega arith
+pub overflow_add-result : goal.overflow_add-result
+overflow_add-result c = let r = piece_rows _ (good (goal.at.overflow_add-result c).Else-is_err) in omega arith
 
 pub returns : goal.returns
-returns c = c.either.ensures ∙ piece_passed _ (good (goal.at.returns c).Else-is_err)
+returns c = piece_passed _ (good (goal.at.returns c).Else-is_err)

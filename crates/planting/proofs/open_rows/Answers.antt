@@ -18,7 +18,8 @@ piece s =
     seen s.args.piece.now
 
 -- what the piece that fits tells of the columns
-fits : (c : After-row_there-row) → Room (table_of c.args.key.now c.args.size.now c.args.level.now c.args.kind.now c.args.name.now
+fits : (c : After-row_there-row)
+    → Room (table_of c.args.key.now c.args.size.now c.args.level.now c.args.kind.now c.args.name.now
     c.args.count) c.row_there-row.result (seen c.args.piece.now)
 fits c = room (table_of c.args.key.now c.args.size.now c.args.level.now c.args.kind.now c.args.name.now
     c.args.count) c.args.located (seen c.args.piece.now) c.requires _ c.row_there-row.ensures
@@ -78,6 +79,7 @@ after_insertion-requires c = (fits (goal.at.after_insertion-requires c).After-ro
 
 pub returns : goal.returns
 returns c =
-    insert_made (lent (goal.at.returns c).Start) c.args.located (piece (goal.at.returns c).Start) c.requires _ c.row_there-row.ensures c.raise.ensures
+    insert_made (lent (goal.at.returns c).Start) c.args.located
+    (piece (goal.at.returns c).Start) c.requires _ c.row_there-row.ensures c.raise.ensures
     c.open_column.ensures c.open_column-2.ensures c.open_column_raised.ensures
     c.open_column-3.ensures c.open_column-4.ensures c.after_insertion.ensures

@@ -14,45 +14,37 @@ low s = omega (arith, s.requires, s.well_formed)
 
 pub scan_named-requires : goal.scan_named-requires
 scan_named-requires c =
-    let s = c in
-    let a = s.args in
-    let p = part_length a.test.now.kind.now a.from a.to s.requires.in_kind in
-    let q = part_length a.test.now.name.now a.from a.to s.requires.in_name in
-    (omega arith, range_asks s.requires p (fits_part _ _ _ _ _) (low (goal.at.scan_named-requires s).Start))
+    let a = c.args in
+    let p = part_length a.test.now.kind.now a.from a.to c.requires.in_kind in
+    let q = part_length a.test.now.name.now a.from a.to c.requires.in_name in
+    (omega arith, range_asks c.requires p (fits_part _ _ _ _ _) (low (goal.at.scan_named-requires c).Start))
 
-pub returns-then-want-ne0 : goal.returns-then-want-ne0
-returns-then-want-ne0 c =
-    let s = c in
-    let a = s.args in
-    range_gives s.requires (part_length a.test.now.kind.now a.from a.to s.requires.in_kind) (fits_part _ _ _ _ _)
+pub returns-in-Some-default : goal.returns-in-Some-default
+returns-in-Some-default c =
+    let a = c.args in
+    range_gives c.requires (part_length a.test.now.kind.now a.from a.to c.requires.in_kind) (fits_part _ _ _ _ _)
     c.scan_named.ensures
 
 pub scan_kind-requires : goal.scan_kind-requires
 scan_kind-requires c =
-    let s = c in
-    let a = s.args in
-    let t = c in
-    range_asks s.requires (part_length a.test.now.kind.now a.from a.to s.requires.in_kind)
-    (λ i l. fits_part_kind _ _ _ _ _ i l t.if-want-ne5.true t.if-want-ne0.false) (low (goal.at.scan_kind-requires s).Start)
+    let a = c.args in
+    range_asks c.requires (part_length a.test.now.kind.now a.from a.to c.requires.in_kind)
+    (λ i l. fits_part_kind _ _ _ _ _ i l c.in-None-Some.is-1 c.in-None-Some.is-0)
+    (low (goal.at.scan_kind-requires c).Start)
 
-pub returns-then-want-ne5 : goal.returns-then-want-ne5
-returns-then-want-ne5 c =
-    let s = c in
-    let a = s.args in
-    let t = c in
-    range_gives s.requires (part_length a.test.now.kind.now a.from a.to s.requires.in_kind)
-    (λ i l. fits_part_kind _ _ _ _ _ i l t.if-want-ne5.true t.if-want-ne0.false)
+pub returns-in-None-Some : goal.returns-in-None-Some
+returns-in-None-Some c =
+    let a = c.args in
+    range_gives c.requires (part_length a.test.now.kind.now a.from a.to c.requires.in_kind)
+    (λ i l. fits_part_kind _ _ _ _ _ i l c.in-None-Some.is-1 c.in-None-Some.is-0)
     c.scan_kind.ensures
 
 pub number_rows-requires : goal.number_rows-requires
 number_rows-requires c =
-    let s = c in
-    let t = c in
-    range_asks s.requires refl (λ i l. fits_any _ _ _ _ t.if-want-ne5.false t.if-want-ne0.false) (low (goal.at.number_rows-requires s).Start)
+    range_asks c.requires refl (λ i l. fits_any _ _ _ _ c.in-None-None.is-1 c.in-None-None.is-0)
+    (low (goal.at.number_rows-requires c).Start)
 
-pub returns : goal.returns
-returns c =
-    let s = c in
-    let t = c in
-    range_gives s.requires refl (λ i l. fits_any _ _ _ _ t.if-want-ne5.false t.if-want-ne0.false)
+pub returns-in-None-None : goal.returns-in-None-None
+returns-in-None-None c =
+    range_gives c.requires refl (λ i l. fits_any _ _ _ _ c.in-None-None.is-1 c.in-None-None.is-0)
     c.number_rows.ensures

@@ -19,13 +19,19 @@ free c =
     scan_index s.requires s.loop-i.invariant c.loop-i-test.true refl
 
 pub offset_bounds-out-next : goal.offset_bounds-out-next
-offset_bounds-out-next c = let p = free (goal.at.offset_bounds-out-next c).In-loop-i in let w = scan_length c.requires c.loop-i.invariant in search rules
+offset_bounds-out-next c =
+    let p = free (goal.at.offset_bounds-out-next c).In-loop-i in
+    let w = scan_length c.requires c.loop-i.invariant in
+    search rules
 
 pub bounds-out-next : goal.bounds-out-next
 bounds-out-next c = free (goal.at.bounds-out-next c).In-loop-i
 
 pub overflow_add-next : goal.overflow_add-next
-overflow_add-next c = let p = free (goal.at.overflow_add-next c).In-loop-i in let w = scan_length c.requires c.loop-i.invariant in omega arith
+overflow_add-next c =
+    let p = free (goal.at.overflow_add-next c).In-loop-i in
+    let w = scan_length c.requires c.loop-i.invariant in
+    omega arith
 
 pub loop-i-preserved : goal.loop-i-preserved
 loop-i-preserved c = scan_yes c.requires c.loop-i.invariant c.loop-i-test.true refl refl refl

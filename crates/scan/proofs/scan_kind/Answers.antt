@@ -23,19 +23,27 @@ whole : (s : At-loop-i) → length s.loop-i.out ≡ length s.args.out.now
 whole s = scan_length s.requires s.loop-i.invariant
 
 pub offset_bounds-out-next : goal.offset_bounds-out-next
-offset_bounds-out-next c = let p = free (goal.at.offset_bounds-out-next c).Then-own-want_kind in let w = whole (goal.at.offset_bounds-out-next c).At-loop-i in search rules
+offset_bounds-out-next c =
+    let p = free (goal.at.offset_bounds-out-next c).Then-own-want_kind in
+    let w = whole (goal.at.offset_bounds-out-next c).At-loop-i in
+    search rules
 
 pub bounds-out-next : goal.bounds-out-next
 bounds-out-next c = free (goal.at.bounds-out-next c).Then-own-want_kind
 
 pub overflow_add-next : goal.overflow_add-next
-overflow_add-next c = let p = free (goal.at.overflow_add-next c).Then-own-want_kind in let w = whole (goal.at.overflow_add-next c).At-loop-i in omega arith
+overflow_add-next c =
+    let p = free (goal.at.overflow_add-next c).Then-own-want_kind in
+    let w = whole (goal.at.overflow_add-next c).At-loop-i in
+    omega arith
 
 pub loop-i-preserved : goal.loop-i-preserved
 loop-i-preserved c =
     let s = c in
     let l = c.loop-i-test.true in
     elim c.if-own-want_kind.branch [
-      | then-own-want_kind w ↦ scan_yes s.requires s.loop-i.invariant l (eq-eqb _ _ w.if-own-want_kind.true) w.out-is w.next-is
-      | else-own-want_kind w ↦ scan_no s.requires s.loop-i.invariant l (ne_eqb _ _ w.if-own-want_kind.false) w.out-is w.next-is
+      | then-own-want_kind w ↦ scan_yes s.requires s.loop-i.invariant l
+          (eq-eqb _ _ w.if-own-want_kind.true) w.out-is w.next-is
+      | else-own-want_kind w ↦ scan_no s.requires s.loop-i.invariant l
+          (ne_eqb _ _ w.if-own-want_kind.false) w.out-is w.next-is
     ]

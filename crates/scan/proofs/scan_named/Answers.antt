@@ -23,13 +23,19 @@ whole : (s : At-loop-i) → length s.loop-i.out ≡ length s.args.out.now
 whole s = scan_length s.requires.1 s.loop-i.invariant
 
 pub offset_bounds-out-next : goal.offset_bounds-out-next
-offset_bounds-out-next c = let p = free (goal.at.offset_bounds-out-next c).Then-fits in let w = whole (goal.at.offset_bounds-out-next c).At-loop-i in search rules
+offset_bounds-out-next c =
+    let p = free (goal.at.offset_bounds-out-next c).Then-fits in
+    let w = whole (goal.at.offset_bounds-out-next c).At-loop-i in
+    search rules
 
 pub bounds-out-next : goal.bounds-out-next
 bounds-out-next c = free (goal.at.bounds-out-next c).Then-fits
 
 pub overflow_add-next : goal.overflow_add-next
-overflow_add-next c = let p = free (goal.at.overflow_add-next c).Then-fits in let w = whole (goal.at.overflow_add-next c).At-loop-i in omega arith
+overflow_add-next c =
+    let p = free (goal.at.overflow_add-next c).Then-fits in
+    let w = whole (goal.at.overflow_add-next c).At-loop-i in
+    omega arith
 
 pub loop-i-preserved : goal.loop-i-preserved
 loop-i-preserved c =

@@ -40,18 +40,22 @@ above : (c : After-resize_up) → c.resize_up.new.size
     c.args.size.now
 above c =
     c.resize_up.ensures
-    ∙ child_resized _ (subst (Stands c.args.size.now c.args.level.now c.args.count) c.in-Under.is c.requires.0) c.args.by 0 _ (λ z. omega arith)
+    ∙ child_resized _ (subst (Stands c.args.size.now c.args.level.now c.args.count) c.in-Under.is c.requires.0)
+    c.args.by 0 _ (λ z. omega arith)
 
 pub enlarge-requires-in-Under : goal.enlarge-requires-in-Under
 enlarge-requires-in-Under c =
     let (inside, small) =
-    child_asks _ (child (goal.at.enlarge-requires-in-Under c).Start _ c.in-Under.is) c.args.by (above (goal.at.enlarge-requires-in-Under c).After-resize_up) in
+    child_asks _ (child (goal.at.enlarge-requires-in-Under c).Start _ c.in-Under.is) c.args.by
+    (above (goal.at.enlarge-requires-in-Under c).After-resize_up) in
     (inside, small, c.requires.1)
 
 pub returns-in-Root : goal.returns-in-Root
 returns-in-Root c =
-    let e = c.in-Root.is in rw e (c.enlarge.ensures ∙ root_raised _ c.args.by (root (goal.at.returns-in-Root c).Start _ e))
+    let e = c.in-Root.is in rw e (c.enlarge.ensures ∙ root_raised _ c.args.by
+    (root (goal.at.returns-in-Root c).Start _ e))
 
 pub returns-in-Under : goal.returns-in-Under
 returns-in-Under c =
-    let e = c.in-Under.is in rw e (c.enlarge-in-Under.ensures ∙ child_raised _ (child (goal.at.returns-in-Under c).Start _ e) c.args.by (above (goal.at.returns-in-Under c).After-resize_up))
+    let e = c.in-Under.is in rw e (c.enlarge-in-Under.ensures ∙ child_raised _
+    (child (goal.at.returns-in-Under c).Start _ e) c.args.by (above (goal.at.returns-in-Under c).After-resize_up))

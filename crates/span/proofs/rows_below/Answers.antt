@@ -2,6 +2,7 @@
 -- of the first i contexts are below pos. Assumes nothing.
 use Prim.Native.Nat.{◌+◌, ◌-◌, ◌<◌, ◌≤◌}
 use native.Mathlib.Omega.{arith}
+use Rattle.std.proofs.Common.{rules}
 use lib.ListN.{length}
 use Rattle.tree.specs.Table.{at}
 use Rattle.tree.proofs.SoundLaws.{shape_fits}
@@ -17,7 +18,8 @@ spans h = below_spans h.args.trees.now.shape h.args.first h.requires.0
 -- the rows of the context are rows in use, of which there are few
 inside : (c : In-loop-c) → (let a = c.args in
     let w = at a.rows.now c.loop-c.c-index in
-    (w + at a.trees.now.size.now w < a.trees.now.count) × (a.trees.now.count ≤ 4096) × (a.trees.now.count ≤ length a.trees.now.size.now))
+    (w + at a.trees.now.size.now w < a.trees.now.count) × (a.trees.now.count ≤ 4096)
+    × (a.trees.now.count ≤ length a.trees.now.size.now))
 inside c =
     let p = c.requires.1 in
     let m = p.contexts.inside c.loop-c.c-index c.loop-c-test.true in
@@ -26,8 +28,7 @@ inside c =
 
 pub loop-c-init : goal.loop-c-init
 loop-c-init c =
-    let h = c in
-    turn_start h.requires.1 (spans (goal.at.loop-c-init h).Start)
+    turn_start c.requires.1 (spans (goal.at.loop-c-init c).Start)
 
 pub overflow_add-c-in-loop-c : goal.overflow_add-c-in-loop-c
 overflow_add-c-in-loop-c c = omega (arith, inside (goal.at.overflow_add-c-in-loop-c c).In-loop-c)
@@ -37,23 +38,14 @@ overflow_add-c-in-loop-c-2 c = omega (arith, inside (goal.at.overflow_add-c-in-l
 
 pub emit-next-requires : goal.emit-next-requires
 emit-next-requires c =
-    let t = c in
-    let u = t in
-    let l = u in
-    let s = l in
-    turn_asks s.requires.1 (spans (goal.at.emit-next-requires s).Start) s.loop-c.invariant l.loop-c-test.true
-    u.greater-from.ensures t.greater-to.ensures
+    turn_asks c.requires.1 (spans (goal.at.emit-next-requires c).Start) c.loop-c.invariant c.loop-c-test.true
+    (search rules) (search rules)
 
 pub loop-c-preserved : goal.loop-c-preserved
 loop-c-preserved c =
-    let t = c in
-    let u = t in
-    let l = u in
-    let s = l in
-    turn_next s.requires.1 (spans (goal.at.loop-c-preserved s).Start) s.loop-c.invariant l.loop-c-test.true
-    u.greater-from.ensures t.greater-to.ensures c.emit-next.ensures
+    turn_next c.requires.1 (spans (goal.at.loop-c-preserved c).Start) c.loop-c.invariant c.loop-c-test.true
+    (search rules) (search rules) c.emit-next.ensures
 
 pub returns : goal.returns
 returns c =
-    let s = c in
-    turn_done s.requires.1 (spans (goal.at.returns s).Start) s.loop-c.invariant c.loop-c-test.false
+    turn_done c.requires.1 (spans (goal.at.returns c).Start) c.loop-c.invariant c.loop-c-test.false

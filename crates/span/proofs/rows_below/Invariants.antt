@@ -1,7 +1,6 @@
 -- `span::rows_below` meets its contract. The invariant: the rows reached below pos are written, and the rows
 -- of the first i contexts are below pos. Assumes nothing.
 use Prim.Native.Nat.{◌+◌, ◌-◌}
-use lib.ListN.{length}
 use Rattle.tree.specs.Table.{at}
 use Rattle.scan.specs.Want.{accepts}
 use Rattle.span.proofs.SpanLaws.{Turning}

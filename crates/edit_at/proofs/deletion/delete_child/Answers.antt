@@ -15,7 +15,11 @@ lent s =
 
 pub overflow_add-by : goal.overflow_add-by
 overflow_add-by c =
-    omega (arith, rows_fit (lent (goal.at.overflow_add-by c).Start) c.args.child.row c.requires.known, c.requires.known.sound.in_use)
+    omega (
+      arith,
+      rows_fit (lent (goal.at.overflow_add-by c).Start) c.args.child.row c.requires.known,
+      c.requires.known.sound.in_use,
+    )
 
 pub lower-requires : goal.lower-requires
 lower-requires c = record {
@@ -25,11 +29,13 @@ lower-requires c = record {
 
 pub close_rows-requires : goal.close_rows-requires
 close_rows-requires c = record {
-  in_use = low_in_use (lent (goal.at.close_rows-requires c).Start) c.args.child.row c.lower.ensures c.requires.known.sound.in_use;
+  in_use = low_in_use (lent (goal.at.close_rows-requires c).Start) c.args.child.row c.lower.ensures
+      c.requires.known.sound.in_use;
   by_bound = rows_fit (lent (goal.at.close_rows-requires c).Start) c.args.child.row c.requires.known;
 }
 
 pub returns : goal.returns
 returns c =
-    delete_made (lent (goal.at.returns c).Start) c.args.child.row (child_passes (lent (goal.at.returns c).Start) c.args.child c.requires) c.lower.ensures
+    delete_made (lent (goal.at.returns c).Start) c.args.child.row
+    (child_passes (lent (goal.at.returns c).Start) c.args.child c.requires) c.lower.ensures
     c.close_rows.ensures

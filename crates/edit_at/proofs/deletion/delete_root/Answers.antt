@@ -13,7 +13,11 @@ lent s =
 
 pub overflow_add-by : goal.overflow_add-by
 overflow_add-by c =
-    omega (arith, rows_fit (lent (goal.at.overflow_add-by c).Start) c.args.row c.requires.known, c.requires.known.sound.in_use)
+    omega (
+      arith,
+      rows_fit (lent (goal.at.overflow_add-by c).Start) c.args.row c.requires.known,
+      c.requires.known.sound.in_use,
+    )
 
 pub returns-then-only : goal.returns-then-only
 returns-then-only c =
@@ -27,5 +31,6 @@ close_rows-requires c = record {
 
 pub returns : goal.returns
 returns c =
-    delete_made (lent (goal.at.returns c).Start) c.args.row (root_passes (lent (goal.at.returns c).Start) c.args.row c.requires c.if-only.false)
+    delete_made (lent (goal.at.returns c).Start) c.args.row
+    (root_passes (lent (goal.at.returns c).Start) c.args.row c.requires c.if-only.false)
     (root_sizes (lent (goal.at.returns c).Start) c.args.row c.requires _) c.close_rows.ensures

@@ -33,7 +33,8 @@ returns-then-moved-gt4096 c =
 pub returns : goal.returns
 returns c =
     let near = near _ c.ranges.moved c.if-moved-ltminus4096.false c.if-moved-gt4096.false in
-    let below = c.if-old_count-first.false in let to = sum_is c.args.first c.args.moved (omega (arith, c.requires, below)) near in
+    let below = c.if-old_count-first.false in
+    let to = sum_is c.args.first c.args.moved (omega (arith, c.requires, below)) near in
     let new = sum_is c.args.old_count c.args.moved c.requires near in
     ap₂ (λ (a b : Bool). a && b) (ap (λ (z : ℤ). leb 1 c.args.first && le_z (pos 0) z) to)
     (ap (λ (z : ℤ). le_z (pos 1) z && le_z z (pos 4096)) new)

@@ -28,7 +28,8 @@ module _ {old first : ℕ} {moved : ℤ} {row : ℕ} (h : MovesRow old first mov
       (n, sum_is row moved (omega (arith, h.within, h.few)) small ∙ e, e, l)
 
 pub overflow_add-new : goal.overflow_add-new
-overflow_add-new c = sum_fits c.args.row c.args.moved (omega (arith, c.requires.within, c.requires.few)) (small c.requires)
+overflow_add-new c = sum_fits c.args.row c.args.moved (omega (arith, c.requires.within, c.requires.few))
+    (small c.requires)
 
 pub overflow_cast-result : goal.overflow_cast-result
 overflow_cast-result c = let (n, e, _, l) = lands c.requires in rw e (tt, record { fits = omega arith })
