@@ -22,7 +22,7 @@ use tree::{Batched, Columns, Done, Item, Refusal};
 // until the first row goes; a search from the front then costs less than the columns that close up.
 fn row_of(key: &[usize], count: usize, wanted: usize, chained: usize, chains: &Chains<'_>) -> usize
     requires count_in_bounds { count ≤ length key.now }
-    requires in_room { chained ≤ length chains.now.next.now }
+    requires in_room { (chained ≤ length chains.now.next.now) × (chained ≤ most_rows) }
     requires chained { count ≡ chained
         → Chained chains.now.shift key.now chains.now.heads.now chains.now.next.now chained }
     ensures { result ≡ row_of key.now count wanted }
@@ -75,7 +75,7 @@ fn do_items(
     chains: &Chains<'_>,
 ) -> Batched
     requires sound { Sound (table_of key.old size.old level.old kind.old name.old count) }
-    requires in_room { count ≤ length chains.now.next.now }
+    requires in_room { (count ≤ length chains.now.next.now) × (count ≤ most_rows) }
     requires chained { Chained chains.now.shift key.old chains.now.heads.now
         chains.now.next.now count }
     requires good_list { GoodList item_code.now item_key.now item_name.now }
@@ -90,7 +90,7 @@ fn do_items(
         count,
         end: Ok(()),
     };
-    // No index is counted: how far the list came is part of the answer.
+    // Not `for`: how far the list came is part of the answer, and a refusal ends it.
     while progress::goes_on(so_far, item_code.len()) {
         let i = so_far.done;
         let item = Item {
@@ -121,7 +121,7 @@ fn check_and_do(
 ) -> Batched
     requires in_use { InUse (table_of key.old size.old level.old kind.old name.old count) }
     requires in_room { count ≤ length chains.old.next.now }
-    requires empty { Empty chains.old.heads.now }
+    requires empty { Empty chains.old.shift chains.old.heads.now }
     ensures { BatchLeaves (batch_outcome
         (table_of key.old size.old level.old kind.old
         name.old count)

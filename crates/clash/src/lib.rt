@@ -2,6 +2,7 @@
 #![tactic(auto)]
 
 ghost use Rattle.std.specs.Prelude.{◌≡◌, ◌≤◌, length};
+ghost use Rattle.tree.specs.Table.{most_rows};
 ghost use Rattle.keys.specs.Chain.{Empty, Chained};
 ghost use Rattle.clash.specs.FirstClash.{first_clash};
 
@@ -10,8 +11,8 @@ use keys::{Chains, row_of, with_chains};
 // Chains the first n rows, without a test of their keys.
 fn chain(key: &[usize], n: usize, chains: &mut Chains<'_>)
     requires n_in_bounds { n ≤ length key.now }
-    requires n_in_room { n ≤ length chains.old.next.now }
-    requires empty { Empty chains.old.heads.now }
+    requires n_in_room { (n ≤ length chains.old.next.now) × (n ≤ most_rows) }
+    requires empty { Empty chains.old.shift chains.old.heads.now }
     ensures room { length chains.new.next.now ≡ length chains.old.next.now }
     ensures chained { Chained chains.new.shift key.now chains.new.heads.now chains.new.next.now n }
 {
@@ -33,8 +34,8 @@ fn clash_by_rows(key: &[usize], n: usize, piece: &[usize], m: usize) -> usize
 fn clash_in(key: &[usize], n: usize, piece: &[usize], m: usize, chains: &mut Chains<'_>) -> usize
     requires n_in_bounds { n ≤ length key.now }
     requires m_in_bounds { m ≤ length piece.now }
-    requires n_in_room { n ≤ length chains.old.next.now }
-    requires empty { Empty chains.old.heads.now }
+    requires n_in_room { (n ≤ length chains.old.next.now) × (n ≤ most_rows) }
+    requires empty { Empty chains.old.shift chains.old.heads.now }
     ensures { result ≡ first_clash key.now n piece.now m }
 {
     chain(key, n, chains);

@@ -1,7 +1,7 @@
 // Preceding-sibling, for contexts whose parents do not fall from one context to the next. Each context then adds only
 // its siblings between the context ahead of it and itself. They come after all rows written so far, so they are
 // written as they are met, without a set.
-ghost use Rattle.std.specs.Prelude.{◌≡◌, true, false};
+ghost use Rattle.std.specs.Prelude.{◌≡◌, true, false, ◌≤◌};
 ghost use Rattle.scan.specs.Want.{accepts};
 ghost use Rattle.scan.specs.Range.{Appended};
 ghost use Rattle.scan.specs.OneRole.{reached, Contexts, RoleIn, Parents, Wrote};
@@ -13,8 +13,8 @@ use scan::want::NodeTest;
 
 // Whether earlier siblings are asked for, and no context has a parent before that of the context ahead of it. No parent
 // counts as the first.
-pub fn is_rising(trees: &Trees<'_>, up: &[usize; 4096], rows: &[usize], axis: usize) -> bool
-    requires { Contexts rows.now trees.now.count }
+pub fn is_rising(count: usize, up: &[usize; 4096], rows: &[usize], axis: usize) -> bool
+    requires { (count ≤ 4096) × Contexts rows.now count }
     ensures { (result ≡ true → (axis ≡ 11) × ParentsRise up.now rows.now)
         × (result ≡ false → axis ≡ 11 → ParentsRise up.now rows.now → ⊥) }
 {

@@ -12,7 +12,7 @@ use native.Mathlib.Numerals.{add-one}
 use native.Mathlib.Omega.{arith}
 use borrow.Author.Tests.{eqb-true, eqb-false, eq-eqb, ne_eqb, le-leb, lt-leb, ltb-true, ltb-false}
 use lib.Dec.{eqb, leb, ltb, lit<}
-use lib.ListN.{length, get_or, set, replicate, get_or-replicate, length-replicate}
+use lib.ListN.{length, get_or, set, replicate, get_or-replicate}
 use lib.Pow.{shr_lt}
 use lib.Seq.{get_or-set_same, get_or-set_other}
 use Rattle.tree.specs.Search.{nearest}
@@ -26,8 +26,8 @@ unfolding spread_of
 spread_lt x = mod-lt _ (lit< tt)
 
 -- zeros are empty buckets
-pub zeros_empty : (n : ℕ) → Empty (replicate n 0)
-zeros_empty n = record { none = λ b k. get_or-replicate n b 0 0 (simp length-replicate at k) }
+pub zeros_empty : (shift n : ℕ) → buckets_of shift ≤ n → Empty shift (replicate n 0)
+zeros_empty shift n l = record { none = λ b k. get_or-replicate n b 0 0 (lt_of_lt_of_le k l) }
 
 module _ (shift : ℕ) where
   pub bucket_lt : (x : ℕ) → shift ≤ 32 → bucket_of shift x < buckets_of shift
@@ -97,11 +97,10 @@ module _ (shift : ℕ) where
       old j (inr k) = get_or-set_other next i j _ 0 (λ e. absurd (omega arith)) ∙ h.next_at j k
 
   -- no row is chained where all buckets are empty
-  pub none_chained : (key heads next : List ℕ) → buckets_of shift ≤ length heads
-      → Empty heads → Chained shift key heads next 0
+  pub none_chained : (key heads next : List ℕ) → Empty shift heads → Chained shift key heads next 0
   unfolding last_in nearest
-  none_chained key heads next l h = record {
-    heads_at = λ b k. h.none b (lt_of_lt_of_le k l);
+  none_chained key heads next h = record {
+    heads_at = h.none;
     next_at = λ j k. absurd (not-suc-le-zero k);
   }
 

@@ -1,6 +1,6 @@
 -- Rows chained by the bucket of their key, by which a repeated key is found, for any power of two of buckets. No
 -- contract of an entry point cites it. Assumes nothing.
-use Rattle.std.specs.Prelude.{◌≡◌, List, ℕ, ◌+◌, ◌-◌, ◌*◌, ◌/◌, ◌%◌, ◌^◌, ◌<◌, eqb, length}
+use Rattle.std.specs.Prelude.{◌≡◌, List, ℕ, ◌+◌, ◌-◌, ◌*◌, ◌/◌, ◌%◌, ◌^◌, ◌<◌, eqb}
 use Rattle.tree.specs.Search.{nearest}
 use Rattle.tree.specs.Table.{at}
 
@@ -21,8 +21,8 @@ unfoldable pub last_in : ℕ → List ℕ → ℕ → ℕ → ℕ
 last_in shift key b i = nearest (λ j. eqb (bucket_of shift (at key j)) b) i
 
 -- no bucket has a row
-pub record Empty (heads : List ℕ) : Type 0 where
-  pub none : (b : ℕ) → b < length heads → at heads b ≡ 0
+pub record Empty (shift : ℕ) (heads : List ℕ) : Type 0 where
+  pub none : (b : ℕ) → b < buckets_of shift → at heads b ≡ 0
 
 -- the rows below i are chained: heads has the last row of each bucket, next the one before a row
 pub record Chained (shift : ℕ) (key heads next : List ℕ) (i : ℕ) : Type 0 where

@@ -66,14 +66,13 @@ pub struct Chains<'a> {
     pub shift: usize,
     pub ghost low: { shift ≤ 32 },
     pub ghost wide: { buckets_of shift ≤ length heads.now },
-    pub ghost few: { length next.now ≤ most_rows },
 }
 
 impl Chains<'_> {
     // The least of the first n rows with the key x, or n: a walk along the chain of x's bucket, which leads back.
     pub fn row_in(&self, key: &[usize], n: usize, x: usize) -> usize
         requires n_in_bounds { n ≤ length key.now }
-        requires n_in_room { n ≤ length self.now.next.now }
+        requires n_in_room { (n ≤ length self.now.next.now) × (n ≤ most_rows) }
         requires chained { Chained self.now.shift key.now self.now.heads.now self.now.next.now n }
         ensures { result ≡ row_of key.now n x }
     {
@@ -94,7 +93,7 @@ impl Chains<'_> {
     // Whether the key of row i is good: neither 0 nor that of an earlier row.
     pub fn key_ok(&self, key: &[usize], i: usize) -> bool
         requires i_in_bounds { i < length key.now }
-        requires i_in_room { i ≤ length self.now.next.now }
+        requires i_in_room { (i ≤ length self.now.next.now) × (i ≤ most_rows) }
         requires chained { Chained self.now.shift key.now self.now.heads.now self.now.next.now i }
         ensures { result ≡ key_ok key.now i }
     {
@@ -110,7 +109,7 @@ impl Chains<'_> {
     // on with the answer adds 1 once for both.
     pub fn link(&mut self, key: &[usize], i: usize) -> usize
         requires i_in_bounds { i < length key.now }
-        requires i_in_room { i < length self.old.next.now }
+        requires i_in_room { (i < length self.old.next.now) × (i < most_rows) }
         requires chained { Chained self.old.shift key.now self.old.heads.now self.old.next.now i }
         ensures value { result ≡ i + 1 }
         ensures room { length self.new.next.now ≡ length self.old.next.now }
@@ -126,7 +125,7 @@ impl Chains<'_> {
     // Empties all buckets, whatever rows they hold.
     pub fn clear(&mut self)
         ensures room { length self.new.next.now ≡ length self.old.next.now }
-        ensures empty { Empty self.new.heads.now }
+        ensures empty { Empty self.new.shift self.new.heads.now }
     {
         self.heads.fill(0);
     }
@@ -135,8 +134,8 @@ impl Chains<'_> {
     // are at the end.
     pub fn first_key(&mut self, key: &[usize], n: usize) -> usize
         requires n_in_bounds { n ≤ length key.now }
-        requires n_in_room { n ≤ length self.old.next.now }
-        requires empty { Empty self.old.heads.now }
+        requires n_in_room { (n ≤ length self.old.next.now) × (n ≤ most_rows) }
+        requires empty { Empty self.old.shift self.old.heads.now }
         ensures value { result ≡ first_key key.now n }
         ensures room { length self.new.next.now ≡ length self.old.next.now }
         ensures chained_2 { Chained self.new.shift key.now self.new.heads.now self.new.next.now result }
@@ -163,8 +162,8 @@ fn with_size<const HEADS: usize, const ROWS: usize, F: FnOnce(&mut Chains<'_>) -
     requires wide { buckets_of shift ≤ HEADS }
     requires few { (HEADS ≤ 16384) × (ROWS ≤ most_rows) }
     requires n_in_room { n ≤ ROWS }
-    requires callable { (c : _) → n ≤ length c.now.next.now → Empty c.now.heads.now → F.pre f c }
-    ensures { (c : _) × (after : _) × (n ≤ length c.now.next.now) × Empty c.now.heads.now
+    requires callable { (c : _) → n ≤ length c.now.next.now → Empty c.now.shift c.now.heads.now → F.pre f c }
+    ensures { (c : _) × (after : _) × (n ≤ length c.now.next.now) × Empty c.now.shift c.now.heads.now
         × F.post f c result after }
 {
     let mut heads = [0u16; HEADS];
@@ -180,8 +179,8 @@ fn with_size<const HEADS: usize, const ROWS: usize, F: FnOnce(&mut Chains<'_>) -
 // so no longer than the rows ask for: there are six sizes, with four buckets for each row, which are 2^(32 - shift).
 pub fn with_chains<F: FnOnce(&mut Chains<'_>) -> usize>(n: usize, f: F) -> usize
     requires n_bound { n ≤ most_rows }
-    requires callable { (c : _) → n ≤ length c.now.next.now → Empty c.now.heads.now → F.pre f c }
-    ensures { (c : _) × (after : _) × (n ≤ length c.now.next.now) × Empty c.now.heads.now
+    requires callable { (c : _) → n ≤ length c.now.next.now → Empty c.now.shift c.now.heads.now → F.pre f c }
+    ensures { (c : _) × (after : _) × (n ≤ length c.now.next.now) × Empty c.now.shift c.now.heads.now
         × F.post f c result after }
 {
     match n {

@@ -62,7 +62,7 @@ fn role_rows(
     if walk.axis == 10 {
         return later_siblings(walk, rows, set, out);
     }
-    if earlier::is_rising(&walk.trees, walk.up, rows, walk.axis) {
+    if earlier::is_rising(walk.trees.count, walk.up, rows, walk.axis) {
         return earlier::rising_rows(&walk.trees, walk.up, &walk.test, rows, out);
     }
     one_role(walk, rows, set, out)

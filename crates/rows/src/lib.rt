@@ -73,7 +73,7 @@ pub fn first_bad(columns: &Columns<'_>) -> usize
 pub fn first_bad_in(columns: &Columns<'_>, chains: &mut Chains<'_>) -> usize
     requires in_use { InUse (seen columns.now) }
     requires in_room { columns.now.count ≤ length chains.old.next.now }
-    requires empty { Empty chains.old.heads.now }
+    requires empty { Empty chains.old.shift chains.old.heads.now }
     ensures value { result ≡ first_bad (seen columns.now) }
     ensures room { length chains.new.next.now ≡ length chains.old.next.now }
     ensures chained_2 { result ≡ columns.now.count

@@ -54,7 +54,7 @@ fn kind_fits(size: usize, own: usize, kind: usize, name: usize) -> bool
 pub fn passed_in(columns: &Columns<'_>, chains: &mut Chains<'_>) -> usize
     requires in_use { InUse (seen columns.now) }
     requires in_room { columns.now.count ≤ length chains.old.next.now }
-    requires empty { Empty chains.old.heads.now }
+    requires empty { Empty chains.old.shift chains.old.heads.now }
     ensures count_value { result ≡ columns.now.count
         → first_bad (seen columns.now) ≡ columns.now.count }
     ensures room { length chains.new.next.now ≡ length chains.old.next.now }

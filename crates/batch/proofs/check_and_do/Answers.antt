@@ -20,7 +20,7 @@ pub do_items-requires : goal.do_items-requires
 do_items-requires c =
     let good = (good_list _ _ _).0 (sym c.check_list.ensures ∙ c.in_default.is) in record {
       sound = rows_sound _ c.requires.in_use c.first_bad_in-bad.ensures.value c.if-bad-count.false;
-      in_room = omega (arith, c.requires.in_room, c.first_bad_in-bad.ensures.room);
+      in_room = (omega (arith, c.requires.in_room, c.first_bad_in-bad.ensures.room), c.requires.in_use.few);
       chained = c.first_bad_in-bad.ensures.chained_2
           (no_bad_row _ c.first_bad_in-bad.ensures.value c.if-bad-count.false);
       good_list = good;

@@ -4,4 +4,4 @@ use Rattle.keys.proofs.KeyLaws.{none_chained}
 use Rattle.clash.proofs.chain.Goals as goal
 
 pub loop-i-init : goal.loop-i-init
-loop-i-init c = (refl, none_chained _ _ _ _ c.args.chains.now.wide c.requires.empty)
+loop-i-init c = (refl, none_chained _ _ _ _ c.requires.empty)

@@ -4,4 +4,4 @@ use Rattle.keys.proofs.KeyLaws.{zeros_empty}
 use Rattle.keys.proofs.with_size.Goals as goal
 
 pub returns : goal.returns
-returns g c = (_, _, rw length-replicate c.requires.n_in_room, zeros_empty _, c.f.ensures)
+returns g c = (_, _, rw length-replicate c.requires.n_in_room, zeros_empty _ _ c.requires.wide, c.f.ensures)

@@ -10,10 +10,10 @@ use borrow.Author.Rules.{rules}
 use Rattle.keys.proofs.Chains.first_key.Goals as goal
 
 pub loop-i-init : goal.loop-i-init
-loop-i-init c = let room = c.args.self.now in (
+loop-i-init c = (
   search rules,
   search rules,
-  none_chained _ _ _ _ room.wide c.requires.empty,
+  none_chained _ _ _ _ c.requires.empty,
   below_none _,
 )
 

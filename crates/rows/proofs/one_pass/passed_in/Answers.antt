@@ -12,7 +12,7 @@ pub loop-i-init : goal.loop-i-init
 loop-i-init c = (
   search rules,
   search rules,
-  none_chained _ _ _ _ c.args.chains.now.wide c.requires.empty,
+  none_chained _ _ _ _ c.requires.empty,
   followed_start _ c.requires.in_use,
   below_none _,
 )
