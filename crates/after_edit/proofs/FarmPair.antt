@@ -20,8 +20,8 @@ use Rattle.tree.proofs.Farms.{farms}
 use Rattle.after_edit.specs.Act.{insertion, deletion, outcome, Accepted}
 use Rattle.after_edit.specs.Independent.{Independent, in_turn}
 use Rattle.after_edit.proofs.EitherOrder.{either_order}
+use Rattle.tree.specs.Number.{told}
 use Rattle.std.specs.Prelude.{Err}
-use Rattle.tree.specs.declared.Refusal.TheVariants.{DeletesRoot}
 
 -- M9 deletes the row of key 21, M10 inserts a leaf under that of key 31
 pub farm_independent : Independent (deletion 21) (insertion 31 leaf) farm
@@ -74,8 +74,8 @@ two = table_of (1 ∷ 2 ∷ []) (0 ∷ 0 ∷ []) (0 ∷ 0 ∷ []) (1 ∷ 1 ∷ [
 
 -- each root may be deleted, and after either the other is the only one
 pub roots_refused : Accepted (outcome (deletion 1) two) × Accepted (outcome (deletion 2) two)
-    × ((in_turn (deletion 1) (deletion 2) two).answer ≡ Err DeletesRoot)
-    × ((in_turn (deletion 2) (deletion 1) two).answer ≡ Err DeletesRoot)
+    × (told (in_turn (deletion 1) (deletion 2) two).answer ≡ Err (15, 0))
+    × (told (in_turn (deletion 2) (deletion 1) two).answer ≡ Err (15, 0))
 unfolding least some_below nearest shortest count_ok level_ok run_of size_of size_ok kind_ok has_name name_ok row_of
     key_ok beside_key_ok row_ok first_bad parent above ancestor other_root given given_at next table_check key_check
     bad_piece insert_check delete_check edit_if edit_check insert_outcome delete_outcome closed changed gap_of deleted

@@ -23,8 +23,8 @@ use Rattle.after_edit.specs.Act.{insertion, deletion, renaming, outcome}
 use Rattle.after_edit.specs.Independent.{Independent, in_turn}
 use Rattle.after_edit.proofs.EitherOrder.{either_order}
 use Rattle.after_edit.proofs.InUseLaws.{in_use_edit}
+use Rattle.tree.specs.Number.{told}
 use Rattle.std.specs.Prelude.{Ok, Err}
-use Rattle.tree.specs.declared.Refusal.TheVariants.{KeyTaken, NoRoom}
 
 -- ── two insertions ──
 -- the two leaves have different keys
@@ -56,16 +56,16 @@ pub leaves_same : SameRows (in_turn (insertion 21 leaf) (insertion 31 (leaf_of 5
 leaves_same = (either_order (insertion 21 leaf) (insertion 31 (leaf_of 51)) farm leaves_independent).2
 
 -- the same key in both pieces: the second of the two is refused with 13
-pub key_refused : ((in_turn (insertion 21 leaf) (insertion 31 leaf) farm).answer ≡ Err (KeyTaken 0))
-    × ((in_turn (insertion 31 leaf) (insertion 21 leaf) farm).answer ≡ Err (KeyTaken 0))
+pub key_refused : (told (in_turn (insertion 21 leaf) (insertion 31 leaf) farm).answer ≡ Err (13, 0))
+    × (told (in_turn (insertion 31 leaf) (insertion 21 leaf) farm).answer ≡ Err (13, 0))
 unfolding least some_below nearest shortest count_ok level_ok run_of size_of size_ok kind_ok has_name name_ok row_of
     key_ok beside_key_ok row_ok first_bad parent above ancestor other_root given given_at next table_check key_check
     bad_piece insert_check edit_if edit_check insert_outcome opened changed gap_of inserted
 key_refused = (refl, refl)
 
 -- three rows in all, where there is room for two: the second of the two is refused with 14
-pub third_refused : ((in_turn (insertion 21 (leaf_of 60)) (insertion 31 twig) farm).answer ≡ Err NoRoom)
-    × ((in_turn (insertion 31 twig) (insertion 21 (leaf_of 60)) farm).answer ≡ Err NoRoom)
+pub third_refused : (told (in_turn (insertion 21 (leaf_of 60)) (insertion 31 twig) farm).answer ≡ Err (14, 0))
+    × (told (in_turn (insertion 31 twig) (insertion 21 (leaf_of 60)) farm).answer ≡ Err (14, 0))
 unfolding least some_below nearest shortest count_ok level_ok run_of size_of size_ok kind_ok has_name name_ok row_of
     key_ok beside_key_ok row_ok first_bad parent above ancestor other_root given given_at next table_check key_check
     bad_piece insert_check edit_if edit_check insert_outcome opened changed gap_of inserted
@@ -79,7 +79,7 @@ same_room = (in_use_edit farm (spared (1 ∷ 2 ∷ [])) (same_farm (1 ∷ 2 ∷ 
 
 -- one column has no room: another answer
 pub less_room : ((outcome (insertion 31 leaf) farm).answer ≡ Ok (insert_done farm 7 leaf))
-    × ((outcome (insertion 31 leaf) (spared [])).answer ≡ Err NoRoom)
+    × (told (outcome (insertion 31 leaf) (spared [])).answer ≡ Err (14, 0))
 unfolding least some_below nearest shortest count_ok level_ok run_of size_of size_ok kind_ok has_name name_ok row_of
     key_ok beside_key_ok row_ok first_bad parent above ancestor other_root given given_at next table_check key_check
     bad_piece insert_check edit_if edit_check insert_outcome

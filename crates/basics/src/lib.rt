@@ -24,7 +24,8 @@ pub fn least<F: Fn(usize) -> bool>(n: usize, test: F) -> usize
         → result ≡ least f n }
 {
     for i in 0..n {
-        if test(i) {
+        let passes = test(i);
+        if passes {
             return i;
         }
     }

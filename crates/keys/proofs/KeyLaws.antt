@@ -1,7 +1,7 @@
 -- The walk along a chain finds the row of a key: `walk_start`, `walk_step`, `walk_hit`, `walk_less`, and at its end
 -- `walk_end`. Chains start empty and grow by a row: `zeros_empty`, `none_chained`, `chained_more`. These hold
 -- however many buckets there are. A bucket is one of them: `bucket_lt`. The test of a key: `key_zero`, `key_new`.
--- Assumes nothing.
+-- Chains that keep their columns: `same_start`, `same_more`. Assumes nothing.
 use mathlib.Core.Path.{◌≡◌, refl, sym, ap, subst, ◌∙◌}
 use mathlib.Core.Logic.{◌⊎◌, inl, inr, ⊎_elim}
 use mathlib.Core.Bool.{Bool, true, false}
@@ -20,6 +20,8 @@ use Rattle.tree.specs.Table.{at}
 use Rattle.tree.specs.Sound.{row_of, key_ok}
 use Rattle.tree.proofs.SearchLaws.{least_none, least_at, least_le, nearest_le, nearest_skip, nearest_in}
 use Rattle.keys.specs.Chain.{spread_of, buckets_of, bucket_of, last_in, Empty, Chained}
+use Rattle.keys.specs.SameChains.{Same}
+use Rattle.keys.specs.declared.Chains.{Chains}
 
 spread_lt : (x : ℕ) → spread_of x < 2 ^ 32
 unfolding spread_of
@@ -155,3 +157,16 @@ at_most_is i r l = ⊎_elim
 pub key_new : (key : List ℕ) (i : ℕ) → (at key i ≡ 0 → ⊥) → leb i (row_of key i (at key i)) ≡ key_ok key i
 unfolding key_ok row_of
 key_new key i n = simp (ne_eqb _ _ n) (at_most_is i _ (least_le _ i))
+
+-- ── chains that kept their columns ──
+pub same_start : (c : Chains) → Same c c
+same_start c = record { shift = refl; heads = refl; next = refl; heads_room = refl; next_room = refl }
+
+pub same_more : {a b c : Chains} → Same a b → Same b c → Same a c
+same_more h k = record {
+  shift = k.shift ∙ h.shift;
+  heads = k.heads ∙ h.heads;
+  next = k.next ∙ h.next;
+  heads_room = k.heads_room ∙ h.heads_room;
+  next_room = k.next_room ∙ h.next_room;
+}

@@ -1,2 +1,3 @@
 pub mod FirstKey
 pub mod Chain
+pub mod SameChains

@@ -69,6 +69,8 @@ pub struct Chains<'a> {
 }
 
 impl Chains<'_> {
+    ghost use Rattle.keys.specs.SameChains.{Same};
+
     // The least of the first n rows with the key x, or n: a walk along the chain of x's bucket, which leads back.
     pub fn row_in(&self, key: &[usize], n: usize, x: usize) -> usize
         requires n_in_bounds { n ≤ length key.now }
@@ -113,6 +115,7 @@ impl Chains<'_> {
         requires chained { Chained self.old.shift key.now self.old.heads.now self.old.next.now i }
         ensures value { result ≡ i + 1 }
         ensures room { length self.new.next.now ≡ length self.old.next.now }
+        ensures same { Same self.old self.new }
         ensures chained_2 { Chained self.new.shift key.now self.new.heads.now self.new.next.now (i + 1) }
     {
         let b = bucket(key[i], self.shift);
@@ -122,9 +125,11 @@ impl Chains<'_> {
         chained
     }
 
-    // Empties all buckets, whatever rows they hold.
+    // Empties all buckets, whatever rows they hold, and changes nothing else.
     pub fn clear(&mut self)
-        ensures room { length self.new.next.now ≡ length self.old.next.now }
+        ensures room { self.new.next.now ≡ self.old.next.now }
+        ensures same { Same self.old self.new }
+        ensures zeros { (b : ℕ) → b < length self.new.heads.now → at self.new.heads.now b ≡ 0 }
         ensures empty { Empty self.new.shift self.new.heads.now }
     {
         self.heads.fill(0);
@@ -138,6 +143,7 @@ impl Chains<'_> {
         requires empty { Empty self.old.shift self.old.heads.now }
         ensures value { result ≡ first_key key.now n }
         ensures room { length self.new.next.now ≡ length self.old.next.now }
+        ensures same { Same self.old self.new }
         ensures chained_2 { Chained self.new.shift key.now self.new.heads.now self.new.next.now result }
     {
         let mut i = 0;

@@ -1,5 +1,5 @@
 -- Laws of the set of rows: its rows word by word (`has_word`, `has_zero`, `unmarked_zero`), a blank set (`has_blank`,
--- `blank_set`, `blank_zeros`), and a row that is put in (`shifted_one`, `bit_with`, `add_added`). Assumes nothing.
+-- `blank_used`, `blank_zeros`), and a row that is put in (`shifted_one`, `bit_with`). Assumes nothing.
 use mathlib.Core.Path.{◌≡◌, sym, ap, ap₂, ◌∙◌}
 use mathlib.Core.Bool.{Bool, false, not, ◌||◌}
 use mathlib.Core.List.{List}

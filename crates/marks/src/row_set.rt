@@ -37,7 +37,7 @@ impl RowSet {
     }
 
     // Whether row x is in the set.
-    pub(crate) fn holds(&self, x: usize) -> bool
+    pub fn holds(&self, x: usize) -> bool
         requires { x < 4096 }
         ensures { result ≡ has self.now x }
     {
@@ -45,7 +45,7 @@ impl RowSet {
     }
 
     // Puts row x into the set.
-    pub(crate) fn add(&mut self, x: usize)
+    pub fn add(&mut self, x: usize)
         requires { x < 4096 }
         ensures { Joined (λ w. eqb w x) self.old self.new }
     {
@@ -53,7 +53,7 @@ impl RowSet {
     }
 
     // Puts rows of word j into the set, those whose bits are set, at least one.
-    pub(crate) fn add_bits(&mut self, j: usize, bits: u64)
+    pub fn add_bits(&mut self, j: usize, bits: u64)
         requires { (j < 64) × (bits ≡ 0 → ⊥) }
         ensures { Joined (in_word (64 * j) bits) self.old self.new }
     {

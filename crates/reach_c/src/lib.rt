@@ -56,7 +56,9 @@ pub extern "C" fn reach_find(
         (table_of key.now size.now level.now
         kind.now name.now count) key_wanted) }
 {
-    answer::of_find(table::find(key, size, level, kind, name, count, key_wanted))
+    let found = table::find(key, size, level, kind, name, count, key_wanted);
+    let answer = answer::of_find(found);
+    answer
 }
 
 // One step for all roles: the number of results in first, the kept count in second, or a refusal from 1 to 8.

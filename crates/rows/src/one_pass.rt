@@ -5,6 +5,7 @@ ghost use Rattle.tree.specs.Table.{most_rows, at, seen};
 ghost use Rattle.tree.specs.Sound.{kind_ok, name_ok, first_bad};
 ghost use Rattle.tree.specs.Rules.{InUse};
 ghost use Rattle.keys.specs.Chain.{buckets_of, Empty, Chained};
+ghost use Rattle.keys.specs.SameChains.{Same};
 ghost use Rattle.rows.specs.OnePass.{fits_in};
 
 use keys::Chains;
@@ -47,21 +48,23 @@ fn kind_fits(size: usize, own: usize, kind: usize, name: usize) -> bool
     true
 }
 
-// How many rows pass: all of them only where every row is sound, and then they are chained; no row is at first. Where a
-// row of level l has to end at the latest stands at l in ends: the end of the table, and behind it that of the last row
-// of each level.
+// How many rows pass: all of them only where every row is sound, and then they are chained in the chains that come
+// back; no row is at first. They come by value, so that the loop holds them in registers: behind a reference they would
+// be read again for each row, and 64 rows and more would take a tenth longer, a third where the code lies badly. Where
+// a row of level l has to end at the latest stands at l in ends: the end of the table, and behind it that of the last
+// row of each level.
 #[tactic(auto, using(crate::proofs::OnePassLaws::row_ends))]
-pub fn passed_in(columns: &Columns<'_>, chains: &mut Chains<'_>) -> usize
+pub fn passed_in<'a>(columns: &Columns<'_>, chains: Chains<'a>) -> (usize, Chains<'a>)
     requires in_use { InUse (seen columns.now) }
-    requires in_room { columns.now.count ≤ length chains.old.next.now }
-    requires empty { Empty chains.old.shift chains.old.heads.now }
-    ensures count_value { result ≡ columns.now.count
+    requires in_room { columns.now.count ≤ length chains.next.now }
+    requires empty { Empty chains.shift chains.heads.now }
+    ensures count_value { result.0 ≡ columns.now.count
         → first_bad (seen columns.now) ≡ columns.now.count }
-    ensures room { length chains.new.next.now ≡ length chains.old.next.now }
-    ensures chained_2 { result ≡ columns.now.count
-        → Chained chains.new.shift columns.now.key.now chains.new.heads.now chains.new.next.now
-        columns.now.count }
+    ensures same { Same chains.entry result.1 }
+    ensures chained { result.0 ≡ columns.now.count
+        → Chained result.1.shift columns.now.key.now result.1.heads.now result.1.next.now columns.now.count }
 {
+    let mut chains = chains;
     let Columns {
         key,
         size,
@@ -77,22 +80,22 @@ pub fn passed_in(columns: &Columns<'_>, chains: &mut Chains<'_>) -> usize
     // Not `for`: `link` counts, and a second count would be 7% of the pass.
     while i < count {
         if !chains.key_ok(key, i) {
-            return i;
+            return (i, chains);
         }
         let after = chains.link(key, i);
         let own = level[i];
         let held = size[i];
         if !fits_in(&ends, most, i, own, held) {
-            return i;
+            return (i, chains);
         }
         if !kind_fits(held, own, kind[i], name[i]) {
-            return i;
+            return (i, chains);
         }
         most = own + 1;
         ends[most] = (after + held) as u32;
         i = after;
     }
-    i
+    (i, chains)
 }
 
 // The same by chains of its own, of so many buckets and rows.
@@ -106,12 +109,12 @@ fn passed_with<const HEADS: usize, const ROWS: usize>(columns: &Columns<'_>, shi
 {
     let mut heads = [0u16; HEADS];
     let mut next = [0u16; ROWS];
-    let mut chains = Chains {
+    let chains = Chains {
         heads: &mut heads,
         next: &mut next,
         shift,
     };
-    passed_in(columns, &mut chains)
+    passed_in(columns, chains).0
 }
 
 // The same at the sizes of `keys::with_chains`. It lends the columns to no closure: a check of few rows takes a tenth

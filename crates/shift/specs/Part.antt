@@ -1,5 +1,6 @@
--- What the movers leave of a column, or of the part of it that is lent to them. No contract of an entry
--- point cites it. That these make 01's opened and closed columns is in proofs/MoverLaws.antt. Assumes nothing.
+-- What the movers leave of the part of a column that is lent to them, and, between two steps of one, of a part and of
+-- a column. No contract of an entry point cites it. That these make 01's opened and closed columns is in
+-- proofs/MoverLaws.antt. Assumes nothing.
 use Rattle.std.specs.Prelude.{ℕ, ◌+◌, ◌-◌, List, ◌++◌, take, drop, replicate}
 
 -- the first n rows of a part, each moved to `by` rows further on

@@ -12,7 +12,10 @@ fn open_part(part: &mut [usize], n: usize, piece: &[usize], by: usize)
     ensures { part.new ≡ opened_part n by piece.now part.old }
 {
     part.copy_within(0..n, by);
-    part[..by].copy_from_slice(&piece[..by]);
+    // Not `copy_from_slice`: it calls `memmove`, and whoever links the library would have to bring that.
+    for i in 0..by {
+        part[i] = piece[i];
+    }
 }
 
 // The same with the rows of the piece raised. Not one function with a raise of 0: four of five columns would add for

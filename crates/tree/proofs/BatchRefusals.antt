@@ -1,5 +1,5 @@
 -- The refusals of a list of changes, in the order of RULES 02, E4: `batch_count` (1), `batch_unsound` (2),
--- `batch_list` (18). Each says that no earlier one applies, then its own condition, then the place. Its checks pass
+-- `batch_list` (18). Each says that no earlier one applies, then its own condition, then the place where it has one. Its checks pass
 -- exactly if the table is sound and the list is good: `good_list`, `batch_passes`. Where they refuse, which is so
 -- with every number that no item gives, nothing is done, and the table and the count are as they were:
 -- `batch_refused`, `batch_unchanged`. On a sound table an item gives 9, 15 or 16 and leaves a sound one, `item_gives`

@@ -1,6 +1,7 @@
 -- The refusals of carrying pairs over an edit, in the order of RULES 02, E1, which gives 17 before 8: `old_refused`
 -- (1), `carry_uneven` (3), `carry_order` (4), `carry_outside` (5), `move_refused` (17), `carry_room` (8). Each says
--- that no earlier one applies, then its own condition, then the place. Assumes nothing.
+-- that no earlier one applies, then its own condition, then the place where the reason has one.
+-- Assumes nothing.
 use mathlib.Core.Path.{◌≡◌, refl, ap}
 use mathlib.Core.Logic.Iff
 use mathlib.Core.Logic.{◌↔◌}

@@ -125,7 +125,7 @@ module _ (f : ℕ → Bool) (n : ℕ) {P : ℕ → Type 0} (h : (i : ℕ) → (f
   )
 
 -- ── one check ──
--- it refuses with its number and place exactly if its test passes
+-- it refuses for its reason exactly if its test passes
 pub given_when : {b : Bool} {why : Refusal} {P : Type 0} → (b ≡ true) ↔ P → (given b why ≡ Err why) ↔ P
 given_when {b} {why} h = (
   λ e. h.0 ((given_refused b why why).0 e).0,

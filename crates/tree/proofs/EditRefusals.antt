@@ -2,7 +2,7 @@
 -- of a piece say, `bad_iff`, `taken_iff`. Insertion: `piece_refused`, `parent_refused`, `deep_refused`,
 -- `taken_refused`, `full_refused`; deletion: `root_refused`; renaming: `name_refused`. Each names the row r that has
 -- the key, so that 1, 2 and 9 do not apply, and says that no other lower number applies, then its own condition, then
--- the place. Assumes nothing.
+-- the place where the reason has one. Assumes nothing.
 use mathlib.Core.Path.{◌≡◌, refl, sym, ap, subst, ◌∙◌}
 use mathlib.Core.Logic.Iff
 use mathlib.Core.Logic.{◌↔◌}

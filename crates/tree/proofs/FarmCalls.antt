@@ -6,12 +6,14 @@ use lib.IntN.{ℤ}
 use lib.ListN.{length, replicate}
 use Rattle.tree.specs.Table.{Table, table_of}
 use Rattle.tree.specs.Step.{Ask, ask_of}
-use Rattle.tree.specs.Outcome.{StepOutcome, EditOutcome, check_outcome, find_outcome, step_outcome, Found}
+use Rattle.tree.specs.Number.{told}
+use Rattle.tree.specs.Outcome.{StepOutcome, EditOutcome, check_outcome, find_outcome, step_outcome}
 use Rattle.tree.specs.Outcome.{insert_outcome, delete_outcome, rename_outcome}
 use Rattle.tree.specs.declared.Located.TheVariants.{Root, Under}
-use Rattle.tree.specs.Refusal.{Checked}
-use Rattle.std.specs.Prelude.{Ok, Err}
-use Rattle.tree.specs.declared.Refusal.{Refusal}
+use Rattle.tree.specs.declared.Located.{Located}
+use Rattle.tree.specs.declared.Tally.{Tally}
+use Rattle.tree.specs.declared.Done.{Done}
+use Rattle.std.specs.Prelude.{Result, Ok, Err}
 
 -- ── the farm, with two spare rows ──
 abbrev pub farm : Table
@@ -51,21 +53,28 @@ pub data Call : Type 0 where
   insert_then_delete : Table → ℕ → Table → ℕ → Call
   delete_then_insert : Table → ℕ → ℕ → Table → Call
 
+-- refusals by number and place
 pub data Gives : Type 0 where
-  checked : Checked → Gives
-  stepped : StepOutcome → Gives
-  found : Found → Gives
-  edited : EditOutcome → Gives
+  checked : Result Unit (ℕ × ℕ) → Gives
+  stepped : Result Tally (ℕ × ℕ) → List ℕ → List ℕ → Gives
+  found : Result Located (ℕ × ℕ) → Gives
+  edited : Result Done (ℕ × ℕ) → Table → Gives
+
+abbrev pub step_gives : StepOutcome → Gives
+step_gives o = stepped (told o.answer) o.role o.row
+
+abbrev pub edit_gives : EditOutcome → Gives
+edit_gives o = edited (told o.answer) o.table
 
 abbrev pub run : Call → Gives
-run (check t) = checked (check_outcome t)
-run (step t role row a outRole outRow) = stepped (step_outcome t role row a outRole outRow)
-run (find t k) = found (find_outcome t k)
-run (insert t k p) = edited (insert_outcome t k p)
-run (delete t k) = edited (delete_outcome t k)
-run (rename t k m) = edited (rename_outcome t k m)
-run (insert_then_delete t k p j) = edited (delete_outcome (insert_outcome t k p).table j)
-run (delete_then_insert t j k p) = edited (insert_outcome (delete_outcome t j).table k p)
+run (check t) = checked (told (check_outcome t))
+run (step t role row a outRole outRow) = step_gives (step_outcome t role row a outRole outRow)
+run (find t k) = found (told (find_outcome t k))
+run (insert t k p) = edit_gives (insert_outcome t k p)
+run (delete t k) = edit_gives (delete_outcome t k)
+run (rename t k m) = edit_gives (rename_outcome t k m)
+run (insert_then_delete t k p j) = edit_gives (delete_outcome (insert_outcome t k p).table j)
+run (delete_then_insert t j k p) = edit_gives (insert_outcome (delete_outcome t j).table k p)
 
 pub record Case : Type 0 where
   pub call : Call
@@ -77,21 +86,18 @@ farm_step a t m = step farm (5 ∷ 5 ∷ 7 ∷ []) (1 ∷ 2 ∷ 6 ∷ []) (ask_o
 
 abbrev pub lists : ℕ → ℕ → List ℕ → List ℕ → Gives
 lists kept rest role row =
-    stepped (record {
-      answer = Ok (record { listed = kept_free role; kept = kept });
-      role = role ++ replicate rest 77;
-      row = row ++ replicate rest 88;
-    })
+    stepped (Ok (record { listed = kept_free role; kept = kept })) (role ++ replicate rest 77)
+    (row ++ replicate rest 88)
   where
     kept_free : List ℕ → ℕ
     kept_free [] = 0
     kept_free (x ∷ xs) = suc (kept_free xs)
 
-abbrev pub refuses : Refusal → Gives
-refuses why = stepped (record { answer = Err why; role = replicate 8 77; row = replicate 8 88 })
+abbrev pub refuses : ℕ → ℕ → Gives
+refuses number place = stepped (Err (number, place)) (replicate 8 77) (replicate 8 88)
 
 abbrev pub makes : ℕ → ℕ → ℤ → Table → Gives
-makes n f d t = edited (record { answer = Ok (record { count = n; first = f; moved = d }); table = t })
+makes n f d t = edited (Ok (record { count = n; first = f; moved = d })) t
 
 -- a row found: a root, or a row with its level and its parent's row
 abbrev pub a_root : ℕ → Gives
@@ -101,8 +107,8 @@ abbrev pub a_child : ℕ → ℕ → ℕ → Gives
 a_child r l p = found (Ok (Under (record { row = r; level = l; parent = p })))
 
 -- an edit refused: the table as it was
-abbrev pub keeps : Refusal → Table → Gives
-keeps why t = edited (record { answer = Err why; table = t })
+abbrev pub keeps : ℕ → ℕ → Table → Gives
+keeps number place t = edited (Err (number, place)) t
 
 -- the farm's columns with another count
 abbrev pub counted : ℕ → Table
@@ -166,8 +172,8 @@ from_row a c = mixed_step (1 ∷ []) (c ∷ []) a 0 0
 abbrev pub reaches : ℕ → List ℕ → Gives
 reaches kept row = lists kept (9 - length row) (map (λ w. 1) row) row
 
-abbrev pub declines : Refusal → Gives
-declines why = stepped (record { answer = Err why; role = replicate 9 77; row = replicate 9 88 })
+abbrev pub declines : ℕ → ℕ → Gives
+declines number place = stepped (Err (number, place)) (replicate 9 77) (replicate 9 88)
 
 -- ── tables and pieces for edits and refusals ──
 -- a piece of two rows, a text in an element, with a spare row

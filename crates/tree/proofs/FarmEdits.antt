@@ -13,14 +13,13 @@ use Rattle.tree.specs.Sound.{row_of, key_ok, beside_key_ok, row_ok, first_bad}
 use Rattle.tree.specs.Tree.{parent, above, ancestor, other_root}
 use Rattle.tree.specs.Edit.{opened, closed, changed, gap_of, inserted, deleted, renamed, minus}
 use Rattle.tree.specs.Edit.{insert_done, delete_done, rename_done}
-use Rattle.tree.specs.Refusal.{given, given_at, next, table_check, key_check, passed}
+use Rattle.tree.specs.Refusal.{given, given_at, next, table_check, key_check}
 use Rattle.tree.specs.Refusal.{bad_piece, insert_check, delete_check, rename_check}
 use Rattle.tree.specs.Outcome.{check_outcome, edit_if, edit_check, insert_outcome, delete_outcome, rename_outcome}
 use Rattle.tree.proofs.FarmCalls.{farm, leaf, leaf_of, twig, ladder, mixed, two_bad, run, Case, makes, keeps}
 use Rattle.tree.proofs.FarmCalls.Call.{check, insert, delete, rename}
 use Rattle.tree.proofs.FarmCalls.Gives.{checked}
-use Rattle.std.specs.Prelude.{Err}
-use Rattle.tree.specs.declared.Refusal.TheVariants.{BadCount, UnsoundRow, NotAParent, TooDeep, NoRoom, BadRename}
+use Rattle.std.specs.Prelude.{Ok, Err}
 
 -- the calls, with what each gives
 abbrev pub cases : List Case
@@ -68,46 +67,46 @@ cases =
           (table_of mixed.key mixed.size mixed.level mixed.kind
           (0 ∷ 4 ∷ 0 ∷ 7 ∷ 9 ∷ 9 ∷ 0 ∷ 9 ∷ 4 ∷ []) 9);
     } ∷
-    record { call = rename mixed 1 7; gives = keeps (BadRename 0) mixed } ∷
-    record { call = rename mixed 3 7; gives = keeps (BadRename 2) mixed } ∷
-    record { call = rename mixed 7 7; gives = keeps (BadRename 6) mixed } ∷
+    record { call = rename mixed 1 7; gives = keeps 16 0 mixed } ∷
+    record { call = rename mixed 3 7; gives = keeps 16 2 mixed } ∷
+    record { call = rename mixed 7 7; gives = keeps 16 6 mixed } ∷
     -- a text, a processing instruction and a comment have no children; a document may, where there is room
-    record { call = insert mixed 3 (leaf_of 50); gives = keeps (NotAParent 2) mixed } ∷
-    record { call = insert mixed 4 (leaf_of 50); gives = keeps (NotAParent 3) mixed } ∷
-    record { call = insert mixed 7 (leaf_of 50); gives = keeps (NotAParent 6) mixed } ∷
-    record { call = insert mixed 1 (leaf_of 50); gives = keeps NoRoom mixed } ∷
+    record { call = insert mixed 3 (leaf_of 50); gives = keeps 11 2 mixed } ∷
+    record { call = insert mixed 4 (leaf_of 50); gives = keeps 11 3 mixed } ∷
+    record { call = insert mixed 7 (leaf_of 50); gives = keeps 11 6 mixed } ∷
+    record { call = insert mixed 1 (leaf_of 50); gives = keeps 14 0 mixed } ∷
     -- a piece whose second row alone is too deep; its first row would have been level 63, which is not
     record {
       call = insert (ladder 63) 63 (table_of (98 ∷ 99 ∷ []) (1 ∷ 0 ∷ []) (0 ∷ 1 ∷ []) (1 ∷ 1 ∷ []) (4 ∷ 4 ∷ []) 2);
-      gives = keeps TooDeep (ladder 63);
+      gives = keeps 12 0 (ladder 63);
     } ∷
-    record { call = insert (ladder 63) 63 (leaf_of 99); gives = keeps NoRoom (ladder 63) } ∷
+    record { call = insert (ladder 63) 63 (leaf_of 99); gives = keeps 14 0 (ladder 63) } ∷
     -- a table with two rows that are not sound: the lesser
-    record { call = check two_bad; gives = checked (Err (UnsoundRow 1)) } ∷
+    record { call = check two_bad; gives = checked (Err (2, 1)) } ∷
     -- two rows, where each column in turn has but one
     record {
       call = check (table_of (1 ∷ []) (1 ∷ 0 ∷ []) (0 ∷ 1 ∷ []) (1 ∷ 1 ∷ []) (4 ∷ 4 ∷ []) 2);
-      gives = checked (Err BadCount);
+      gives = checked (Err (1, 0));
     } ∷
     record {
       call = check (table_of (1 ∷ 2 ∷ []) (1 ∷ []) (0 ∷ 1 ∷ []) (1 ∷ 1 ∷ []) (4 ∷ 4 ∷ []) 2);
-      gives = checked (Err BadCount);
+      gives = checked (Err (1, 0));
     } ∷
     record {
       call = check (table_of (1 ∷ 2 ∷ []) (1 ∷ 0 ∷ []) (0 ∷ []) (1 ∷ 1 ∷ []) (4 ∷ 4 ∷ []) 2);
-      gives = checked (Err BadCount);
+      gives = checked (Err (1, 0));
     } ∷
     record {
       call = check (table_of (1 ∷ 2 ∷ []) (1 ∷ 0 ∷ []) (0 ∷ 1 ∷ []) (1 ∷ []) (4 ∷ 4 ∷ []) 2);
-      gives = checked (Err BadCount);
+      gives = checked (Err (1, 0));
     } ∷
     record {
       call = check (table_of (1 ∷ 2 ∷ []) (1 ∷ 0 ∷ []) (0 ∷ 1 ∷ []) (1 ∷ 1 ∷ []) (4 ∷ []) 2);
-      gives = checked (Err BadCount);
+      gives = checked (Err (1, 0));
     } ∷
     record {
       call = check (table_of (1 ∷ 2 ∷ []) (1 ∷ 0 ∷ []) (0 ∷ 1 ∷ []) (1 ∷ 1 ∷ []) (4 ∷ 4 ∷ []) 2);
-      gives = checked passed;
+      gives = checked (Ok tt);
     } ∷
     []
 

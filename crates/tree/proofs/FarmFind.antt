@@ -16,7 +16,6 @@ use Rattle.tree.proofs.FarmCalls.Call.{find}
 use Rattle.tree.proofs.FarmCalls.Gives.{found}
 use Rattle.tree.proofs.Farms.{farms}
 use Rattle.std.specs.Prelude.{Err}
-use Rattle.tree.specs.declared.Refusal.TheVariants.{BadCount, UnsoundRow, UnknownKey}
 
 -- the calls, with what each gives
 abbrev pub cases : List Case
@@ -48,10 +47,10 @@ cases =
     record { call = find (delete_outcome farm 21).table 31; gives = a_child 5 2 4 } ∷
     record { call = find (delete_outcome farms 10).table 20; gives = a_root 0 } ∷
     -- the refusals, as before: the count, a row that is not sound, a spare row's key, key 0
-    record { call = find (counted 13) 31; gives = found (Err BadCount) } ∷
-    record { call = find two_bad 30; gives = found (Err (UnsoundRow 1)) } ∷
-    record { call = find farm 92; gives = found (Err UnknownKey) } ∷
-    record { call = find farm 0; gives = found (Err UnknownKey) } ∷
+    record { call = find (counted 13) 31; gives = found (Err (1, 0)) } ∷
+    record { call = find two_bad 30; gives = found (Err (2, 1)) } ∷
+    record { call = find farm 92; gives = found (Err (9, 0)) } ∷
+    record { call = find farm 0; gives = found (Err (9, 0)) } ∷
     []
 
 -- each call gives what its case says

@@ -16,12 +16,12 @@ use Rattle.tree.specs.Test.{test_ok, passes}
 use Rattle.tree.specs.Pairs.{pairs_of, with_role, roles_of, rows_of, before, out_of_order, some, distinct}
 use Rattle.tree.specs.Step.{listed, reached, lines_of, step_list}
 use Rattle.tree.specs.Kept.{drops, remaining, kept_count}
-use Rattle.tree.specs.Refusal.{given, given_at, next, table_check, pair_check, ask_check, room_check, passed}
+use Rattle.tree.specs.Refusal.{given, given_at, next, table_check, pair_check, ask_check, room_check}
 use Rattle.tree.specs.Outcome.{check_outcome, step_outcome, step_if, step_check, overwritten}
+use Rattle.std.specs.Prelude.{Ok}
 use Rattle.tree.proofs.FarmCalls.{mixed, mixed_step, tested, from_row, reaches, declines, lists, run, Case, Call}
 use Rattle.tree.proofs.FarmCalls.Call.{check}
 use Rattle.tree.proofs.FarmCalls.Gives.{checked}
-use Rattle.tree.specs.declared.Refusal.TheVariants.{PairOutOfOrder, BadTest}
 
 -- the pairs of role 1 on rows 1, 2, 5 and 7
 abbrev on_four : ℕ → Call
@@ -30,7 +30,7 @@ on_four a = mixed_step (1 ∷ 1 ∷ 1 ∷ 1 ∷ []) (1 ∷ 2 ∷ 5 ∷ 7 ∷ [])
 -- the calls, with what each gives
 abbrev pub cases : List Case
 cases =
-    record { call = check mixed; gives = checked passed } ∷
+    record { call = check mixed; gives = checked (Ok tt) } ∷
     -- tests 0 to 7: any node, the document too; elements by kind, then by a name that an instruction has too; text,
     -- comment; instructions by kind, then by a name that an element has too; the document
     record { call = tested 0 0; gives = reaches 1 (0 ∷ 1 ∷ 2 ∷ 3 ∷ 4 ∷ 5 ∷ 6 ∷ 7 ∷ 8 ∷ []) } ∷
@@ -44,15 +44,15 @@ cases =
     record { call = tested 6 9; gives = reaches 1 (5 ∷ []) } ∷
     record { call = tested 7 0; gives = reaches 1 (0 ∷ []) } ∷
     -- a name with a test that has none; none with a test that needs one; no such test
-    record { call = tested 0 4; gives = declines BadTest } ∷
-    record { call = tested 1 4; gives = declines BadTest } ∷
-    record { call = tested 2 0; gives = declines BadTest } ∷
-    record { call = tested 3 4; gives = declines BadTest } ∷
-    record { call = tested 4 4; gives = declines BadTest } ∷
-    record { call = tested 5 4; gives = declines BadTest } ∷
-    record { call = tested 6 0; gives = declines BadTest } ∷
-    record { call = tested 7 4; gives = declines BadTest } ∷
-    record { call = tested 8 0; gives = declines BadTest } ∷
+    record { call = tested 0 4; gives = declines 7 0 } ∷
+    record { call = tested 1 4; gives = declines 7 0 } ∷
+    record { call = tested 2 0; gives = declines 7 0 } ∷
+    record { call = tested 3 4; gives = declines 7 0 } ∷
+    record { call = tested 4 4; gives = declines 7 0 } ∷
+    record { call = tested 5 4; gives = declines 7 0 } ∷
+    record { call = tested 6 0; gives = declines 7 0 } ∷
+    record { call = tested 7 4; gives = declines 7 0 } ∷
+    record { call = tested 8 0; gives = declines 7 0 } ∷
     -- each axis from row 5, of level 3: itself, nothing below, its one parent, all ancestors, what follows and precedes
     record { call = from_row 1 5; gives = reaches 1 (5 ∷ []) } ∷
     record { call = from_row 2 5; gives = reaches 1 [] } ∷
@@ -102,8 +102,8 @@ cases =
       gives = lists 2 4 (2 ∷ 2 ∷ 2 ∷ 2 ∷ 2 ∷ []) (2 ∷ 3 ∷ 4 ∷ 5 ∷ 6 ∷ []);
     } ∷
     record { call = mixed_step (1 ∷ 2 ∷ []) (5 ∷ 1 ∷ []) 6 5 0; gives = lists 2 9 [] [] } ∷
-    record { call = mixed_step (2 ∷ 1 ∷ []) (1 ∷ 5 ∷ []) 3 0 0; gives = declines (PairOutOfOrder 1) } ∷
-    record { call = mixed_step (1 ∷ 1 ∷ []) (5 ∷ 1 ∷ []) 3 0 0; gives = declines (PairOutOfOrder 1) } ∷
+    record { call = mixed_step (2 ∷ 1 ∷ []) (1 ∷ 5 ∷ []) 3 0 0; gives = declines 4 1 } ∷
+    record { call = mixed_step (1 ∷ 1 ∷ []) (5 ∷ 1 ∷ []) 3 0 0; gives = declines 4 1 } ∷
     []
 
 -- each call gives what its case says

@@ -24,48 +24,45 @@ use Rattle.tree.proofs.FarmCalls.{step_on, refuses, keeps}
 use Rattle.tree.proofs.FarmCalls.Call.{check, step, find, insert, delete, rename}
 use Rattle.tree.proofs.FarmCalls.Gives.{checked, stepped, found}
 use Rattle.std.specs.Prelude.{Err}
-use Rattle.tree.specs.declared.Refusal.TheVariants.{BadCount, UnsoundRow, BadTest}
-use Rattle.tree.specs.declared.Refusal.TheVariants.{BadPairColumns, PairOutOfOrder, PairOutsideTable, BadAxis}
-use Rattle.tree.specs.declared.Refusal.TheVariants.{UnknownKey, BadPiece, NotAParent, TooDeep, KeyTaken}
 
 -- the calls, with what each gives
 abbrev pub cases : List Case
 cases =
     -- check: 1 before 2. The count is above the shortest column, and row 10 is not sound
-    record { call = check (counted 13); gives = checked (Err BadCount) } ∷
+    record { call = check (counted 13); gives = checked (Err (1, 0)) } ∷
     -- find: 1 before 2; 2 before 9
-    record { call = find (counted 13) 31; gives = found (Err BadCount) } ∷
-    record { call = find two_bad 99; gives = found (Err (UnsoundRow 1)) } ∷
+    record { call = find (counted 13) 31; gives = found (Err (1, 0)) } ∷
+    record { call = find two_bad 99; gives = found (Err (2, 1)) } ∷
     -- step: 1 before 2; 2 before 3; 3 before 4, where the columns differ in length and the roles fall
-    record { call = step_on (counted 13) (5 ∷ []) (1 ∷ []) 1 0 0; gives = refuses BadCount } ∷
-    record { call = step_on two_bad (5 ∷ []) [] 1 0 0; gives = refuses (UnsoundRow 1) } ∷
-    record { call = step_on farm (5 ∷ 4 ∷ []) (1 ∷ []) 1 0 0; gives = refuses BadPairColumns } ∷
+    record { call = step_on (counted 13) (5 ∷ []) (1 ∷ []) 1 0 0; gives = refuses 1 0 } ∷
+    record { call = step_on two_bad (5 ∷ []) [] 1 0 0; gives = refuses 2 1 } ∷
+    record { call = step_on farm (5 ∷ 4 ∷ []) (1 ∷ []) 1 0 0; gives = refuses 3 0 } ∷
     -- step: 4 before 5, also where 5 is at an earlier place; 5 before 6; 6 before 7
-    record { call = step_on farm (5 ∷ 5 ∷ 4 ∷ []) (1 ∷ 10 ∷ 1 ∷ []) 1 0 0; gives = refuses (PairOutOfOrder 2) } ∷
-    record { call = step_on farm (5 ∷ 5 ∷ []) (1 ∷ 10 ∷ []) 12 0 0; gives = refuses (PairOutsideTable 1) } ∷
-    record { call = step_on farm (5 ∷ []) (1 ∷ []) 12 0 4; gives = refuses BadAxis } ∷
+    record { call = step_on farm (5 ∷ 5 ∷ 4 ∷ []) (1 ∷ 10 ∷ 1 ∷ []) 1 0 0; gives = refuses 4 2 } ∷
+    record { call = step_on farm (5 ∷ 5 ∷ []) (1 ∷ 10 ∷ []) 12 0 0; gives = refuses 5 1 } ∷
+    record { call = step_on farm (5 ∷ []) (1 ∷ []) 12 0 4; gives = refuses 6 0 } ∷
     -- step: 7 before 8. A name with test 0; every row passes that, and there is no room for one
     record {
       call = step farm (5 ∷ []) (1 ∷ []) (ask_of 3 0 4) [] [];
-      gives = stepped (record { answer = Err BadTest; role = []; row = [] });
+      gives = stepped (Err (7, 0)) [] [];
     } ∷
     -- insert: 1 before 2; 2 before 9; 9 before 10; 10 before 11
-    record { call = insert (counted 13) 31 leaf; gives = keeps BadCount (counted 13) } ∷
-    record { call = insert two_bad 99 leaf; gives = keeps (UnsoundRow 1) two_bad } ∷
-    record { call = insert farm 99 two_bad; gives = keeps UnknownKey farm } ∷
-    record { call = insert farm 40 two_bad; gives = keeps BadPiece farm } ∷
+    record { call = insert (counted 13) 31 leaf; gives = keeps 1 0 (counted 13) } ∷
+    record { call = insert two_bad 99 leaf; gives = keeps 2 1 two_bad } ∷
+    record { call = insert farm 99 two_bad; gives = keeps 9 0 farm } ∷
+    record { call = insert farm 40 two_bad; gives = keeps 10 0 farm } ∷
     -- insert: 11 before 12, under a text of level 63; 12 before 13, with a key of the table; 13 before 14
-    record { call = insert deep_text 64 (leaf_of 99); gives = keeps (NotAParent 63) deep_text } ∷
-    record { call = insert (ladder 64) 64 (leaf_of 1); gives = keeps TooDeep (ladder 64) } ∷
-    record { call = insert (ladder 64) 63 (leaf_of 1); gives = keeps (KeyTaken 0) (ladder 64) } ∷
+    record { call = insert deep_text 64 (leaf_of 99); gives = keeps 11 63 deep_text } ∷
+    record { call = insert (ladder 64) 64 (leaf_of 1); gives = keeps 12 0 (ladder 64) } ∷
+    record { call = insert (ladder 64) 63 (leaf_of 1); gives = keeps 13 0 (ladder 64) } ∷
     -- delete: 1 before 2; 2 before 9. Not 9 with 15: where no row has the key, none is the only root
-    record { call = delete (counted 13) 10; gives = keeps BadCount (counted 13) } ∷
-    record { call = delete two_bad 99; gives = keeps (UnsoundRow 1) two_bad } ∷
-    record { call = delete leaf 99; gives = keeps UnknownKey leaf } ∷
+    record { call = delete (counted 13) 10; gives = keeps 1 0 (counted 13) } ∷
+    record { call = delete two_bad 99; gives = keeps 2 1 two_bad } ∷
+    record { call = delete leaf 99; gives = keeps 9 0 leaf } ∷
     -- rename: 1 before 2; 2 before 9; 9 before 16, with the new name 0
-    record { call = rename (counted 13) 24 6; gives = keeps BadCount (counted 13) } ∷
-    record { call = rename two_bad 99 6; gives = keeps (UnsoundRow 1) two_bad } ∷
-    record { call = rename farm 99 0; gives = keeps UnknownKey farm } ∷
+    record { call = rename (counted 13) 24 6; gives = keeps 1 0 (counted 13) } ∷
+    record { call = rename two_bad 99 6; gives = keeps 2 1 two_bad } ∷
+    record { call = rename farm 99 0; gives = keeps 9 0 farm } ∷
     []
 
 -- each call gives what its case says

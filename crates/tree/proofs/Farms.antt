@@ -19,7 +19,7 @@ use Rattle.tree.specs.Kept.{drops, remaining, kept_count}
 use Rattle.tree.specs.Edit.{opened, closed, changed, gap_of, inserted, deleted, renamed, minus}
 use Rattle.tree.specs.Edit.{insert_done, delete_done, rename_done}
 use Rattle.tree.specs.Refusal.{given, given_at, next, table_check, pair_check, ask_check, room_check, key_check}
-use Rattle.tree.specs.Refusal.{bad_piece, insert_check, delete_check, rename_check, passed}
+use Rattle.tree.specs.Refusal.{bad_piece, insert_check, delete_check, rename_check}
 use Rattle.tree.specs.Outcome.{check_outcome, stands_by, standing, located, find_outcome}
 use Rattle.tree.specs.Outcome.{step_outcome, step_if, step_check}
 use Rattle.tree.specs.Outcome.{overwritten, edit_if, edit_check, insert_outcome, delete_outcome, rename_outcome}
@@ -28,8 +28,7 @@ use Rattle.tree.specs.Trees.{pairs_in, sum_where, over_trees, tree_results, tree
 use Rattle.tree.proofs.FarmCalls.{leaf, run, Case, Call, lists, a_root, makes, keeps}
 use Rattle.tree.proofs.FarmCalls.Call.{check, step, find, insert, delete, rename}
 use Rattle.tree.proofs.FarmCalls.Gives.{checked}
-use Rattle.std.specs.Prelude.{Err}
-use Rattle.tree.specs.declared.Refusal.TheVariants.{UnsoundRow, BadPiece, DeletesRoot, BadRename}
+use Rattle.std.specs.Prelude.{Ok, Err}
 
 -- three farms, with two spare rows: rows 0 to 3, rows 4 to 6 under a document, and row 7 alone
 abbrev pub farms : Table
@@ -65,7 +64,7 @@ cases =
     -- the table, and each axis: none leaves the tree of its context
     record {
       call = check farms;
-      gives = checked passed;
+      gives = checked (Ok tt);
     } ∷
     record {
       call = farms_step 1 0;
@@ -145,23 +144,23 @@ cases =
     -- the level rule and the kind rule
     record {
       call = check (shaped (0 ∷ 0 ∷ 0 ∷ 0 ∷ []) (0 ∷ 0 ∷ 0 ∷ 0 ∷ []) (1 ∷ 0 ∷ 2 ∷ 0 ∷ []) (4 ∷ 0 ∷ 0 ∷ 0 ∷ []) 4);
-      gives = checked passed;
+      gives = checked (Ok tt);
     } ∷
     record {
       call = check (shaped (1 ∷ 0 ∷ 1 ∷ 0 ∷ []) (0 ∷ 1 ∷ 0 ∷ 2 ∷ []) (1 ∷ 1 ∷ 1 ∷ 1 ∷ []) (4 ∷ 4 ∷ 4 ∷ 4 ∷ []) 4);
-      gives = checked (Err (UnsoundRow 3));
+      gives = checked (Err (2, 3));
     } ∷
     record {
       call = check (shaped (0 ∷ 0 ∷ 0 ∷ 0 ∷ []) (1 ∷ 0 ∷ 0 ∷ 0 ∷ []) (1 ∷ 1 ∷ 1 ∷ 1 ∷ []) (4 ∷ 4 ∷ 4 ∷ 4 ∷ []) 4);
-      gives = checked (Err (UnsoundRow 0));
+      gives = checked (Err (2, 0));
     } ∷
     record {
       call = check (shaped (0 ∷ 1 ∷ 0 ∷ 0 ∷ []) (0 ∷ 0 ∷ 1 ∷ 0 ∷ []) (1 ∷ 1 ∷ 0 ∷ 1 ∷ []) (4 ∷ 4 ∷ 0 ∷ 4 ∷ []) 4);
-      gives = checked (Err (UnsoundRow 2));
+      gives = checked (Err (2, 2));
     } ∷
     record {
       call = check (shaped (0 ∷ 1 ∷ 0 ∷ 0 ∷ []) (0 ∷ 0 ∷ 1 ∷ 0 ∷ []) (1 ∷ 2 ∷ 1 ∷ 1 ∷ []) (4 ∷ 0 ∷ 4 ∷ 4 ∷ []) 4);
-      gives = checked (Err (UnsoundRow 1));
+      gives = checked (Err (2, 1));
     } ∷
     -- finding a root
     record {
@@ -205,16 +204,16 @@ cases =
     -- the only root is not
     record {
       call = delete leaf 50;
-      gives = keeps DeletesRoot leaf;
+      gives = keeps 15 0 leaf;
     } ∷
     -- a piece of several trees is refused
     record {
       call = insert farms 21 (table_of (50 ∷ 51 ∷ []) (0 ∷ 0 ∷ []) (0 ∷ 0 ∷ []) (1 ∷ 1 ∷ []) (4 ∷ 4 ∷ []) 2);
-      gives = keeps BadPiece farms;
+      gives = keeps 10 0 farms;
     } ∷
     record {
       call = insert farms 21 farms;
-      gives = keeps BadPiece farms;
+      gives = keeps 10 0 farms;
     } ∷
     -- a piece comes under a row of its tree, and moves the later trees; under a document; at the end
     record {
@@ -259,7 +258,7 @@ cases =
     } ∷
     record {
       call = rename farms 20 6;
-      gives = keeps (BadRename 4) farms;
+      gives = keeps 16 4 farms;
     } ∷
     []
 

@@ -35,7 +35,7 @@ use Rattle.tree.specs.declared.Refusal.{Refusal}
 use Rattle.tree.specs.Number.{number}
 
 -- ── refusals ──
--- a check refuses exactly for its reason, with its number and place
+-- a check refuses exactly for its reason
 pub given_refused : (b : Bool) (why other : Refusal) → (given b why ≡ Err other) ↔ ((b ≡ true) × (why ≡ other))
 unfolding given
 given_refused true why other = (λ e. (refl, cc), λ h. ap Err h.1)

@@ -38,6 +38,8 @@ pub mod StepRefusals
 pub mod EditRefusals
 pub mod CarryRefusals
 pub mod BatchRefusals
+pub mod NumberLaws
+pub mod ToldRefusals
 pub mod EditSizes
 pub mod EditSound
 pub mod FarmCalls

@@ -1,8 +1,8 @@
 -- Refusals 3 to 8, of a step. Before them those of the check of pairs alone, which carrying has too: `uneven_pairs`,
 -- `falling_pairs`, `outside_pairs`, with `falls_iff` for a pair out of order; and of the check of room: `no_room`.
 -- Then `uneven_refused` (3), `order_refused` (4), `outside_refused` (5), `axis_refused` (6), `test_refused` (7),
--- `room_refused` (8). Each says that no lower number applies, then its own condition, then the place. Assumes
--- nothing.
+-- `room_refused` (8). Each says that no lower number applies, then its own condition, then the place where
+-- the reason has one. Assumes nothing.
 use mathlib.Core.Path.{◌≡◌, refl}
 use mathlib.Core.Logic.{◌↔◌}
 use mathlib.Core.Bool.{true, not, ◌||◌}

@@ -2,7 +2,7 @@
 -- `refusal_is`; which numbers each check can give, `table_gives` to `rename_gives`, and each call, 01's line,
 -- `call_numbers`. Then `count_refused` (1) and `row_refused` (2); a refusal of a later check than the table's,
 -- `after_table`; and `unknown_refused` (9). Each says that no lower number applies, then its own condition, then the
--- place. Assumes nothing.
+-- place where the reason has one. Assumes nothing.
 use mathlib.Core.Path.{◌≡◌, refl, sym, ◌∙◌}
 use mathlib.Core.Logic.{◌↔◌}
 use mathlib.Core.Bool.{Bool, true, false, cond, not}

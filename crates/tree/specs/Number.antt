@@ -1,6 +1,6 @@
--- The number and the place of each refusal: RULES 01, "Refusal numbers"; 17 and 18 are of RULES 02, E1 and E4. Assumes
--- nothing.
-use Rattle.std.specs.Prelude.{ℕ}
+-- The number and the place of each refusal: RULES 01, "Refusal numbers"; 17 and 18 are of RULES 02, E1 and E4. When a
+-- call is told which number and place is in proofs/ToldRefusals.antt. Assumes nothing.
+use Rattle.std.specs.Prelude.{ℕ, Result, Ok, Err}
 use Rattle.tree.specs.declared.Refusal.{Refusal}
 use Rattle.tree.specs.declared.Refusal.TheVariants.{BadCount, UnsoundRow, BadPairColumns, PairOutOfOrder}
 use Rattle.tree.specs.declared.Refusal.TheVariants.{PairOutsideTable, BadAxis, BadTest, TooManyResults, UnknownKey}
@@ -38,3 +38,8 @@ place (NotAParent p) = p
 place (KeyTaken p) = p
 place (BadRename p) = p
 place _ = 0
+
+-- an answer in numbers: what was accepted, or the refusal's number and place
+abbrev pub told : {A : Type 0} → Result A Refusal → Result A (ℕ × ℕ)
+told (Ok a) = Ok a
+told (Err why) = Err (number why, place why)

@@ -1,8 +1,8 @@
 -- What the refusals are given for, as propositions: RULES 01, "Refusal numbers", column "given exactly when", as 02's
 -- E1, E2 and E4 left it. Not here, since Rules, StepRules and CarryRules have them: 2 is for the least row that is not
 -- a `SoundRow`, 7 where `TestRule` fails, 17 where `MoveFits` does; and 8 and 11, which compare two numbers. That a
--- call answers a number and a place exactly then is in proofs/TableRefusals.antt and the others that Request names.
--- Assumes nothing.
+-- call is told a number and a place exactly then is in proofs/ToldRefusals.antt, by its reason in
+-- proofs/TableRefusals.antt and the others that Request names. Assumes nothing.
 use Rattle.std.specs.Prelude.{◌≡◌, ◌⊎◌, List, ℕ, ◌+◌, ◌-◌, ◌<◌, ◌≤◌, length}
 use Rattle.tree.specs.Table.{Table, most_rows, at, shortest}
 use Rattle.tree.specs.Pairs.{most_pairs}

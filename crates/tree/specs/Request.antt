@@ -1,6 +1,7 @@
--- The public calls of 01, and the refusal that the answer of each gives. When a call gives which one:
--- proofs/TableRefusals.antt (1, 2, 9), StepRefusals.antt (3 to 8), EditRefusals.antt (10 to 16), by the conditions of
--- RefusalRules. Carrying pairs has CarryRefusals.antt, and a list of changes BatchRefusals.antt. Assumes nothing.
+-- The public calls of 01, and the refusal that the answer of each gives. When a call is told which number and place, by
+-- the conditions of RefusalRules: proofs/ToldRefusals.antt. Before that by its reason: proofs/TableRefusals.antt (1, 2,
+-- 9), StepRefusals.antt (3 to 8), EditRefusals.antt (10 to 16). Carrying pairs has CarryRefusals.antt, and a list of
+-- changes BatchRefusals.antt. Assumes nothing.
 use Rattle.std.specs.Prelude.{ℕ, Result, Ok, Err, List, [], ◌∷◌}
 use Rattle.tree.specs.Table.{Table}
 use Rattle.tree.specs.Step.{Ask}

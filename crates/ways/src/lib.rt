@@ -45,6 +45,13 @@ fn climb(
     next
 }
 
+// Turns a part of a column round. It has a contract of its own, at which a wrong edit of it is refused.
+fn turn_round(part: &mut [usize])
+    ensures { part.new ≡ reverse part.old }
+{
+    part.reverse();
+}
+
 // Appends the same rows from the first to the last; answers how many are written then.
 fn way_up(
     trees: &Trees<'_>,
@@ -61,7 +68,7 @@ fn way_up(
         out.old written result out.new }
 {
     let end = climb(trees, up, test, floor, start, out, written);
-    out[written..end].reverse();
+    turn_round(&mut out[written..end]);
     end
 }
 

@@ -6,8 +6,8 @@ use Rattle.std.proofs.Common.{rules}
 use Rattle.tree.proofs.SearchLaws.{least_at, least_none}
 use Rattle.basics.proofs.least.Goals as goal
 
-pub returns-then-test : goal.returns-then-test
-returns-then-test g c f h =
+pub returns-then-passes : goal.returns-then-passes
+returns-then-passes g c f h =
     sym (least_at f _ _ c.loop-i-test.true
     (λ k m. sym (h k false (omega (arith, c.loop-i-test.true)) (c.loop-i.invariant k m)))
     (sym (h _ true c.loop-i-test.true (search rules))))

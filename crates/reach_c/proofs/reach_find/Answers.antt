@@ -6,6 +6,6 @@ use Rattle.reach_c.proofs.FindAnswerLaws.{parent_small}
 use Rattle.reach_c.proofs.reach_find.Goals as goal
 use Rattle.tree.specs.Outcome.{Found}
 
-pub of_find-requires : goal.of_find-requires
-of_find-requires c =
-    subst (λ (f : Found). parent_found f ≤ 4096) (sym c.find.ensures) (parent_small _ _)
+pub of_find-answer-requires : goal.of_find-answer-requires
+of_find-answer-requires c =
+    subst (λ (f : Found). parent_found f ≤ 4096) (sym c.find-found.ensures) (parent_small _ _)

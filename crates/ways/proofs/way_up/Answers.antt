@@ -3,4 +3,4 @@ use Rattle.ways.proofs.ReverseLaws.{appended_turned}
 use Rattle.ways.proofs.way_up.Goals as goal
 
 pub returns : goal.returns
-returns c = appended_turned c.climb-end.ensures c.requires.room c.reverse.ensures.after
+returns c = appended_turned c.climb-end.ensures c.requires.room c.turn_round.ensures

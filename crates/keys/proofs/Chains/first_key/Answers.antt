@@ -4,7 +4,7 @@ use mathlib.Core.Path.{sym, ap, ◌∙◌}
 use mathlib.Core.Bool.{not}
 use Rattle.tree.proofs.SearchLaws.{least_at, least_end}
 use Rattle.keys.specs.FirstKey.{first_key}
-use Rattle.keys.proofs.KeyLaws.{none_chained}
+use Rattle.keys.proofs.KeyLaws.{none_chained, same_start}
 use borrow.Author.Count.{below_none}
 use borrow.Author.Rules.{rules}
 use Rattle.keys.proofs.Chains.first_key.Goals as goal
@@ -12,7 +12,7 @@ use Rattle.keys.proofs.Chains.first_key.Goals as goal
 pub loop-i-init : goal.loop-i-init
 loop-i-init c = (
   search rules,
-  search rules,
+  same_start _,
   none_chained _ _ _ _ c.requires.empty,
   below_none _,
 )

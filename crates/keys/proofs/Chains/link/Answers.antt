@@ -10,6 +10,13 @@ returns c =
     let before = c.args.self.now in record {
       value = refl;
       room = length-set _ _ _;
+      same = record {
+        shift = refl;
+        heads = refl;
+        next = refl;
+        heads_room = length-set _ _ _;
+        next_room = length-set _ _ _;
+      };
       chained_2 = rw c.bucket-b.ensures.0
           (chained_more _ _ _ _ c.args.i before.low before.wide (omega arith) c.requires.chained);
     }
