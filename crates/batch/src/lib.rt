@@ -106,8 +106,50 @@ fn do_items(
 }
 
 // The items, once the rows of the table and then the list were checked; refusal 2 or 18. The check leaves the rows
-// chained by their keys, in chains of so many buckets and rows.
-fn check_and_do<const HEADS: usize, const ROWS: usize>(
+// chained by their keys.
+fn check_and_do(
+    key: &mut [usize],
+    size: &mut [usize],
+    level: &mut [usize],
+    kind: &mut [usize],
+    name: &mut [usize],
+    count: usize,
+    item_code: &[usize],
+    item_key: &[usize],
+    item_name: &[usize],
+    chains: &mut Chains<'_>,
+) -> Batched
+    requires in_use { InUse (table_of key.old size.old level.old kind.old name.old count) }
+    requires in_room { count ≤ length chains.old.next.now }
+    requires empty { Empty chains.old.shift chains.old.heads.now }
+    ensures { BatchLeaves (batch_outcome
+        (table_of key.old size.old level.old kind.old
+        name.old count)
+        item_code.now item_key.now item_name.now) result
+        key.new size.new level.new kind.new name.new }
+{
+    let columns = Columns {
+        key,
+        size,
+        level,
+        kind,
+        name,
+        count,
+    };
+    let bad = rows::first_bad_in(&columns, chains);
+    if bad < count {
+        return progress::nothing_done(count, Refusal::UnsoundRow(bad));
+    }
+    if let Err(why) = items::check_list(item_code, item_key, item_name) {
+        return progress::nothing_done(count, why);
+    }
+    do_items(
+        key, size, level, kind, name, count, item_code, item_key, item_name, chains,
+    )
+}
+
+// The same with chains of its own, of so many buckets and rows.
+fn check_and_do_in<const HEADS: usize, const ROWS: usize>(
     key: &mut [usize],
     size: &mut [usize],
     level: &mut [usize],
@@ -130,30 +172,24 @@ fn check_and_do<const HEADS: usize, const ROWS: usize>(
         item_code.now item_key.now item_name.now) result
         key.new size.new level.new kind.new name.new }
 {
-    let columns = Columns {
+    let mut heads = [0u16; HEADS];
+    let mut next = [0u16; ROWS];
+    let mut chains = Chains {
+        heads: &mut heads,
+        next: &mut next,
+        shift,
+    };
+    check_and_do(
         key,
         size,
         level,
         kind,
         name,
         count,
-    };
-    let mut heads = [0u16; HEADS];
-    let mut next = [0u16; ROWS];
-    let empty_chains = Chains {
-        heads: &mut heads,
-        next: &mut next,
-        shift,
-    };
-    let (bad, chains) = rows::first_bad_in(&columns, empty_chains);
-    if bad < count {
-        return progress::nothing_done(count, Refusal::UnsoundRow(bad));
-    }
-    if let Err(why) = items::check_list(item_code, item_key, item_name) {
-        return progress::nothing_done(count, why);
-    }
-    do_items(
-        key, size, level, kind, name, count, item_code, item_key, item_name, &chains,
+        item_code,
+        item_key,
+        item_name,
+        &mut chains,
     )
 }
 
@@ -189,11 +225,11 @@ pub fn batch(
         return progress::nothing_done(count, Refusal::BadCount);
     }
     if count <= 256 {
-        return check_and_do::<1024, 256>(
+        return check_and_do_in::<1024, 256>(
             key, size, level, kind, name, count, item_code, item_key, item_name, 22,
         );
     }
-    check_and_do::<16384, 4096>(
+    check_and_do_in::<16384, 4096>(
         key, size, level, kind, name, count, item_code, item_key, item_name, 18,
     )
 }

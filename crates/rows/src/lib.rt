@@ -68,24 +68,23 @@ pub fn first_bad(columns: &Columns<'_>) -> usize
     search_row_by_row(columns).min(keys::first_key(columns.key, columns.count))
 }
 
-// The same for calls that look up keys afterwards: where every row is sound, all rows are chained in the chains that
-// come back, in which none is at first.
+// The same for calls that look up keys afterwards: where every row is sound, all rows are chained in the chains lent
+// for it, in which none is at first.
 #[tactic(auto, using(crate::proofs::FirstBadLaws::first_bad_min, crate::proofs::FirstBadLaws::first_key_le))]
-pub fn first_bad_in<'a>(columns: &Columns<'_>, chains: Chains<'a>) -> (usize, Chains<'a>)
+pub fn first_bad_in(columns: &Columns<'_>, chains: &mut Chains<'_>) -> usize
     requires in_use { InUse (seen columns.now) }
-    requires in_room { columns.now.count ≤ length chains.next.now }
-    requires empty { Empty chains.shift chains.heads.now }
-    ensures value { result.0 ≡ first_bad (seen columns.now) }
-    ensures same { Same chains.entry result.1 }
-    ensures chained { result.0 ≡ columns.now.count
-        → Chained result.1.shift columns.now.key.now result.1.heads.now result.1.next.now columns.now.count }
+    requires in_room { columns.now.count ≤ length chains.old.next.now }
+    requires empty { Empty chains.old.shift chains.old.heads.now }
+    ensures value { result ≡ first_bad (seen columns.now) }
+    ensures room { length chains.new.next.now ≡ length chains.old.next.now }
+    ensures same { Same chains.old chains.new }
+    ensures chained_2 { result ≡ columns.now.count
+        → Chained chains.new.shift columns.now.key.now chains.new.heads.now chains.new.next.now
+        columns.now.count }
 {
-    let (passed, chains) = one_pass::passed_in(columns, chains);
-    if passed == columns.count {
-        return (passed, chains);
+    if one_pass::passed_in(columns, chains) == columns.count {
+        return columns.count;
     }
-    let mut chains = chains;
     chains.clear();
-    let first_key = chains.first_key(columns.key, columns.count);
-    (search_row_by_row(columns).min(first_key), chains)
+    search_row_by_row(columns).min(chains.first_key(columns.key, columns.count))
 }

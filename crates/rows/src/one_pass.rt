@@ -48,23 +48,23 @@ fn kind_fits(size: usize, own: usize, kind: usize, name: usize) -> bool
     true
 }
 
-// How many rows pass: all of them only where every row is sound, and then they are chained in the chains that come
-// back; no row is at first. They come by value, so that the loop holds them in registers: behind a reference they would
-// be read again for each row, and 64 rows and more would take a tenth longer, a third where the code lies badly. Where
-// a row of level l has to end at the latest stands at l in ends: the end of the table, and behind it that of the last
-// row of each level.
+// How many rows pass: all of them only where every row is sound, and then they are chained; no row is at first. Where a
+// row of level l has to end at the latest stands at l in ends: the end of the table, and behind it that of the last row
+// of each level. It is compiled into both of its callers.
 #[tactic(auto, using(crate::proofs::OnePassLaws::row_ends))]
-pub fn passed_in<'a>(columns: &Columns<'_>, chains: Chains<'a>) -> (usize, Chains<'a>)
+#[inline(always)]
+pub fn passed_in(columns: &Columns<'_>, chains: &mut Chains<'_>) -> usize
     requires in_use { InUse (seen columns.now) }
-    requires in_room { columns.now.count ≤ length chains.next.now }
-    requires empty { Empty chains.shift chains.heads.now }
-    ensures count_value { result.0 ≡ columns.now.count
+    requires in_room { columns.now.count ≤ length chains.old.next.now }
+    requires empty { Empty chains.old.shift chains.old.heads.now }
+    ensures count_value { result ≡ columns.now.count
         → first_bad (seen columns.now) ≡ columns.now.count }
-    ensures same { Same chains.entry result.1 }
-    ensures chained { result.0 ≡ columns.now.count
-        → Chained result.1.shift columns.now.key.now result.1.heads.now result.1.next.now columns.now.count }
+    ensures room { length chains.new.next.now ≡ length chains.old.next.now }
+    ensures same { Same chains.old chains.new }
+    ensures chained_2 { result ≡ columns.now.count
+        → Chained chains.new.shift columns.now.key.now chains.new.heads.now chains.new.next.now
+        columns.now.count }
 {
-    let mut chains = chains;
     let Columns {
         key,
         size,
@@ -80,22 +80,36 @@ pub fn passed_in<'a>(columns: &Columns<'_>, chains: Chains<'a>) -> (usize, Chain
     // Not `for`: `link` counts, and a second count would be 7% of the pass.
     while i < count {
         if !chains.key_ok(key, i) {
-            return (i, chains);
+            return i;
         }
         let after = chains.link(key, i);
         let own = level[i];
         let held = size[i];
         if !fits_in(&ends, most, i, own, held) {
-            return (i, chains);
+            return i;
         }
         if !kind_fits(held, own, kind[i], name[i]) {
-            return (i, chains);
+            return i;
         }
         most = own + 1;
         ends[most] = (after + held) as u32;
         i = after;
     }
-    (i, chains)
+    i
+}
+
+// The same by chains that come by value and are handed back, so that the loop holds them in registers: behind a
+// reference they are read again for each row, and 64 rows and more take a tenth longer, a third where the code lies
+// badly.
+fn passed_by<'a>(columns: &Columns<'_>, chains: Chains<'a>) -> (usize, Chains<'a>)
+    requires in_use { InUse (seen columns.now) }
+    requires in_room { columns.now.count ≤ length chains.next.now }
+    requires empty { Empty chains.shift chains.heads.now }
+    ensures { result.0 ≡ columns.now.count → first_bad (seen columns.now) ≡ columns.now.count }
+{
+    let mut chains = chains;
+    let passed = passed_in(columns, &mut chains);
+    (passed, chains)
 }
 
 // The same by chains of its own, of so many buckets and rows.
@@ -114,7 +128,7 @@ fn passed_with<const HEADS: usize, const ROWS: usize>(columns: &Columns<'_>, shi
         next: &mut next,
         shift,
     };
-    passed_in(columns, chains).0
+    passed_by(columns, chains).0
 }
 
 // The same at the sizes of `keys::with_chains`. It lends the columns to no closure: a check of few rows takes a tenth

@@ -17,13 +17,13 @@ in_use : (c : Else-not-count_ok)
     → InUse (table_of c.args.key.now c.args.size.now c.args.level.now c.args.kind.now c.args.name.now c.args.count)
 in_use c = (count_ok_lem _).0 (sym c.count_ok.ensures ∙ c.if-not-count_ok.false)
 
-pub check_and_do-requires-clause-in_use : goal.check_and_do-requires-clause-in_use
-check_and_do-requires-clause-in_use c = in_use (goal.at.check_and_do-requires-clause-in_use c).Else-not-count_ok
+pub check_and_do_in-requires-clause-in_use : goal.check_and_do_in-requires-clause-in_use
+check_and_do_in-requires-clause-in_use c = in_use (goal.at.check_and_do_in-requires-clause-in_use c).Else-not-count_ok
 
-pub check_and_do-requires-2-clause-in_use : goal.check_and_do-requires-2-clause-in_use
-check_and_do-requires-2-clause-in_use c =
-    in_use (goal.at.check_and_do-requires-2-clause-in_use c).Else-not-count_ok
+pub check_and_do_in-requires-2-clause-in_use : goal.check_and_do_in-requires-2-clause-in_use
+check_and_do_in-requires-2-clause-in_use c =
+    in_use (goal.at.check_and_do_in-requires-2-clause-in_use c).Else-not-count_ok
 
-pub check_and_do-requires-2-clause-in_room : goal.check_and_do-requires-2-clause-in_room
-check_and_do-requires-2-clause-in_room c =
-    (in_use (goal.at.check_and_do-requires-2-clause-in_room c).Else-not-count_ok).few
+pub check_and_do_in-requires-2-clause-in_room : goal.check_and_do_in-requires-2-clause-in_room
+check_and_do_in-requires-2-clause-in_room c =
+    (in_use (goal.at.check_and_do_in-requires-2-clause-in_room c).Else-not-count_ok).few

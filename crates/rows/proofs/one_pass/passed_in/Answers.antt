@@ -35,6 +35,7 @@ pub returns : goal.returns
 returns c = record {
   count_value = λ e. followed_all _ c.requires.in_use _ _
       c.loop-i.i e c.loop-i.invariant.3 c.loop-i.invariant.4;
+  room = c.loop-i.invariant.1.next_room;
   same = c.loop-i.invariant.1;
-  chained = λ e. rw (← e) c.loop-i.invariant.2;
+  chained_2 = λ e. rw (← e) c.loop-i.invariant.2;
 }
